@@ -1,0 +1,11 @@
+pub mod Search
+pub mod Labels
+pub mod Labellings
+pub mod Operations
+pub mod Numbers
+pub mod Reasons
+pub mod Answers
+pub mod Clipped
+pub mod Rows
+pub mod Charts
+pub mod Theorems
