@@ -123,7 +123,7 @@ mod tests {
     const GOOD: [(&str, &str); 6] = [
         ("", ""),
         ("# nothing\n\n   \n", ""),
-        ("  say  two  words \nsay\n\tsay x", " two  words\n\nx\n"),
+        ("  say  two  words \nsay\n\tsay\tx", " two  words\n\nx\n"),
         (
             "operation truncated-sum 3\r\nvalues\r\nask 2 1\r\ntell 2\r\ntell 1\r\n",
             "operation truncated-sum 3: chosen\nvalues:\n      0 1 2\n  0 | 0 1 2\n  1 | 1 2 2\n  2 | 2 2 2\nask 2 1: 2\ntell 2: 2\ntell 1: none\n",

@@ -110,6 +110,9 @@ fn said(line: &str) -> Option<&str> {
     if line == "say" {
         return Some("");
     }
+    if let Some(text) = line.strip_prefix("say\t") {
+        return Some(text);
+    }
     line.strip_prefix("say ")
 }
 
