@@ -8,13 +8,13 @@ ghost use Rattle.mvl.specs.declared.question.Question.the-variants.{Product, I
 /// The answers of some labelling: what it makes of a and b stands at 4 * a + b. The `carries` say all: the others follow from them.
 #[derive(Clone, Copy)]
 pub struct Chart {
-    pub(crate) radix: u8,
-    pub(crate) labels: u8,
-    pub(crate) carries: [u8; 16],
-    pub(crate) products: [u8; 16],
-    pub(crate) inverses: [u8; 4],
-    pub(crate) homes: [u8; 4],
-    pub(crate) home_labels: [u8; 4],
+    pub radix: u8,
+    pub labels: u8,
+    pub carries: [u8; 16],
+    pub products: [u8; 16],
+    pub inverses: [u8; 4],
+    pub homes: [u8; 4],
+    pub home_labels: [u8; 4],
     ghost small: { radix ≤ 4 },
     ghost few: { labels ≤ 4 },
     ghost lawful: { ∥ Laws (rows-meaning radix labels carries) ∥₁ },

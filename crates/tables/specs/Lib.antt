@@ -1,0 +1,13 @@
+pub mod Edges
+pub mod Records
+pub mod Chains
+pub mod Orders
+pub mod Cards
+pub mod Stores
+pub mod Sounds
+pub mod Finds
+pub mod Makes
+pub mod Did
+pub mod Evaluates
+pub mod Walks
+pub mod Walked
