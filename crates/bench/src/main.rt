@@ -2,6 +2,8 @@
 //!
 //! Without arguments only check sums and counts are printed. The argument `time` has the times printed too.
 
+#![tactic(auto)]
+
 mod building;
 mod fault;
 mod filling;

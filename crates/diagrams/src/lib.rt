@@ -3,6 +3,8 @@
 //! There is nothing to run here. Each function stands for a theorem: its contract is the statement, which `specs/Theorems.antt` has, and a
 //! check asks for its proof.
 
+#![tactic(auto)]
+
 ghost use Rattle.diagrams.specs.Theorems.{Canonical, Least, BuildGains, GainsCount, ExchangeExists, ExchangeKeepsRules, ExchangeKeepsFunctions, ExchangeCount, ExchangeAgain, RefusalSmallest, Grants, Performs, Plays, ExchangeAgainGranted, RunsKeep, RunsGoOn, ExamplesHold};
 
 /// In a reduced table, edges of equal functions are one edge.

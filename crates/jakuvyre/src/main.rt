@@ -1,5 +1,7 @@
 //! Plays a script and lists what was done.
 
+#![tactic(auto)]
+
 use anyhow::anyhow;
 use scripts::playing::run;
 use scripts::usage::USAGE;

@@ -15,7 +15,7 @@ use crate::rows::fill;
 impl Chart {
     /// The chart of `l`: the same radix, as many labels, and each of them carries each value to the same.
     pub fn of<L: Labelling>(l: &L) -> Chart
-        ensures { chart_meaning result ≡ clipped (meaning l.now) }
+        ensures { chart_meaning result ≡ clipped (L.meaning l.now) }
     {
         let mut carries = [0u8; 16];
         let mut products = [0u8; 16];

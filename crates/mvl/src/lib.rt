@@ -3,6 +3,8 @@
 //!
 //! A function `.._stands` stands for a theorem: its contract is the statement, which `specs/Theorems.antt` has, and a check asks for its proof.
 
+#![tactic(auto)]
+
 pub mod chart;
 pub mod charts;
 pub mod complement;

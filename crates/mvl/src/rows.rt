@@ -10,7 +10,7 @@ use crate::refusal::Refusal;
 
 // The home of `value`: the inverse of its home label carries it there.
 fn home_of<L: Labelling>(l: &L, value: u8) -> Result<u8, Refusal>
-    ensures { HomeIs (meaning l.now) value result }
+    ensures { HomeIs (L.meaning l.now) value result }
 {
     let label = l.home_label(value)?;
     let back = l.inverse(label)?;
@@ -19,7 +19,7 @@ fn home_of<L: Labelling>(l: &L, value: u8) -> Result<u8, Refusal>
 
 // What `l` says of place `x` of a row.
 fn ask<L: Labelling>(l: &L, question: Question, x: u8) -> Result<u8, Refusal>
-    ensures { Told question (meaning l.now) x result }
+    ensures { Told question (L.meaning l.now) x result }
 {
     match question {
         Question::Carry => l.carry(x / 4, x % 4),
@@ -32,7 +32,7 @@ fn ask<L: Labelling>(l: &L, question: Question, x: u8) -> Result<u8, Refusal>
 
 // The answer at `x`, if there is one.
 fn answer<L: Labelling>(l: &L, question: Question, x: u8) -> u8
-    ensures { Asked question (meaning l.now) x → result ≡ reply question (meaning l.now) x }
+    ensures { Asked question (L.meaning l.now) x → result ≡ reply question (L.meaning l.now) x }
 {
     match ask(l, question, x) {
         Ok(w) => w,
@@ -43,7 +43,7 @@ fn answer<L: Labelling>(l: &L, question: Question, x: u8) -> u8
 /// Each place of `row` gets the answer that it is for, if there is one.
 pub(crate) fn fill<L: Labelling>(l: &L, question: Question, row: &mut [u8])
     requires { length row.old ≤ 16 }
-    ensures { Row (length row.new) question (meaning l.now) row.new }
+    ensures { Row (length row.new) question (L.meaning l.now) row.new }
 {
     for x in 0..row.len() {
         row[x] = answer(l, question, x as u8);

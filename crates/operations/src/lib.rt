@@ -1,5 +1,7 @@
 //! Operations on two values: what one means, the operations that are supplied, and shortcuts by the left operand.
 
+#![tactic(auto)]
+
 pub mod cyclic_sum;
 pub mod filling;
 pub mod maximum;

@@ -1,5 +1,7 @@
 //! Tests of scripts.
 
+#![tactic(auto)]
+
 #[cfg(test)]
 mod tests {
     use scripts::playing::run;

@@ -2,6 +2,8 @@
 //!
 //! `playing::run` plays a whole script; an `Entry` and a `Failure` print themselves.
 
+#![tactic(auto)]
+
 pub mod any_labelling;
 pub mod any_operation;
 pub mod chosen;

@@ -2,6 +2,8 @@
 //!
 //! Arguments, both may be left out: the seed, and the number of calls for each labelling and radix.
 
+#![tactic(auto)]
+
 mod calls;
 mod fault;
 mod function;

@@ -29,7 +29,7 @@ impl<L: Labelling> Table<L> {
     pub fn open(heap: Global, card: Card, labelling: L) -> Result<Table<L>, AllocError>
     where
         L: Drop,
-        ensures { elim result [ Ok t ↦ (t.labelling ≡ labelling) × (meaning_of t.inner ≡ clipped (meaning labelling)) × Fresh card t.inner | Err _ ↦ Unit {0} ] }
+        ensures { elim result [ Ok t ↦ (t.labelling ≡ labelling) × (meaning_of t.inner ≡ clipped (L.meaning labelling)) × Fresh card t.inner | Err _ ↦ Unit {0} ] }
     {
         let chart = Chart::of(&labelling);
         let inner = Diagrams::open(heap, card, chart)?;

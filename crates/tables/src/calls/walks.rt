@@ -52,7 +52,7 @@ impl Diagrams {
         e: Edge,
         f: Edge,
     ) -> Result<Edge, Refusal>
-        ensures { Did self.old (asks (applying (meaning operation.now).radix (meaning operation.now).answer (arrow e) (arrow f))) (answer_of result) self.new }
+        ensures { Did self.old (asks (applying (O.meaning operation.now).radix (O.meaning operation.now).answer (arrow e) (arrow f))) (answer_of result) self.new }
     {
         if let Err(why) = self.fit(operation.radix(), e, f) {
             return Err(why);
