@@ -4,11 +4,11 @@ use Rattle.operations.specs.Turnings.{carried_asks}
 use Rattle.operations.proofs.turned.TurnedOperation.ask.Goals as goal
 
 -- the operation below is asked for values that it has
-pub returns-in-err-v : goal.returns-in-err-v
-returns-in-err-v g c =
+pub returns-in_err-v : goal.returns-in_err-v
+returns-in_err-v g c =
     let t = c.args.self.now in
     absurd
     (carried_asks _ _ t.left t.right t.answer (g.met.O.Operation.closed t.below) (g.met.L.Labelling.lawful t.labelling)
     (passed (sym c.turns.ensures ∙ c.if-not-turns.false))
-    c.args.left c.args.right c.in-ok-a.a c.in-ok-b.b c.in-err-v.field-0.0
-    c.in-ok-a.ensures c.in-ok-b.ensures c.in-err-v.ensures)
+    c.args.left c.args.right c.in_ok-a.a c.in_ok-b.b c.in_err-v.field-0.0
+    c.in_ok-a.ensures c.in_ok-b.ensures c.in_err-v.ensures)
