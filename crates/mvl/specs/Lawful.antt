@@ -1,9 +1,8 @@
--- The laws as a test over every label and value, and the supplied labellings that pass it. Assumes nothing.
+-- The laws as a test over every label and value: what passes it keeps them. Assumes nothing.
 use Rattle.std.specs.Prelude.{◌≡◌, ℕ, zero, suc, ◌%◌, ◌<◌, ◌≤◌, Bool, not, ◌&&◌, ◌||◌, T, ◌⊎◌, ◌==◌, nat_eq, nat_le, nat_lt, refl}
 use Rattle.std.proofs.Common.{inl, inr, ⊎_elim, arith, eqb→eq, ltb→lt, leb→le, T_not, lit<}
 use Rattle.mvl.specs.Search.{all_below}
 use Rattle.mvl.specs.Labels.{Meaning, product, inverse, Laws}
-use Rattle.mvl.specs.Labellings.{plain, complement, cyclic}
 use Rattle.mvl.specs.Tests.{equal_passes, and_left, and_right, or_either}
 use Rattle.mvl.specs.Below.{all_below_at}
 
@@ -92,21 +91,11 @@ radixes P two three four (suc (suc (suc zero))) low high = three
 radixes P two three four (suc (suc (suc (suc zero)))) low high = four
 radixes P two three four (suc (suc (suc (suc (suc p))))) low high = absurd (omega arith)
 
--- the labellings that are supplied
-pub plain_laws : (p : ℕ) → 2 ≤ p → p ≤ 4 → Laws (plain p)
-plain_laws p low high = lawful_laws (plain p) (radixes (λ p. T (lawful (plain p))) tt tt tt p low high)
+-- labellings that pass at each radix from 2 to 4
+pub each_lawful : (f : ℕ → Meaning) → T (lawful (f 2)) → T (lawful (f 3)) → T (lawful (f 4)) → (p : ℕ) → 2 ≤ p → p ≤ 4 → Laws (f p)
+each_lawful f two three four p low high = lawful_laws (f p) (radixes (λ p. T (lawful (f p))) two three four p low high)
 
-pub cyclic_laws : (p : ℕ) → 2 ≤ p → p ≤ 4 → Laws (cyclic p)
-cyclic_laws p low high = lawful_laws (cyclic p) (radixes (λ p. T (lawful (cyclic p))) tt tt tt p low high)
-
-pub complement_laws : (p : ℕ) → (p ≡ 2) ⊎ (p ≡ 4) → Laws (complement p)
-complement_laws p = ⊎_elim (λ e. rw e (lawful_laws (complement 2) tt)) (λ e. rw e (lawful_laws (complement 4) tt))
-
--- a small radix that 2 divides is 2 or 4
-pub even_laws : (p : ℕ) → 2 ≤ p → p ≤ 4 → p % 2 ≡ 0 → Laws (complement p)
-even_laws p low high even =
-    complement_laws p (radixes (λ p. p % 2 ≡ 0 → (p ≡ 2) ⊎ (p ≡ 4)) (λ e. inl refl) (λ e. absurd (omega arith)) (λ e. inr refl) p low high even)
-
--- no other radix will do
-pub complement_three : Laws (complement 3) → ⊥
-complement_three l = let e = l.free 0 1 1 l.labels_low (lit< tt) (lit< tt) refl in omega arith
+-- labellings that pass at radix 2 and 4: a small radix that 2 divides is one of these
+pub even_lawful : (f : ℕ → Meaning) → T (lawful (f 2)) → T (lawful (f 4)) → (p : ℕ) → 2 ≤ p → p ≤ 4 → p % 2 ≡ 0 → Laws (f p)
+even_lawful f two four p low high even =
+    radixes (λ p. p % 2 ≡ 0 → Laws (f p)) (λ e. lawful_laws (f 2) two) (λ e. absurd (omega arith)) (λ e. lawful_laws (f 4) four) p low high even

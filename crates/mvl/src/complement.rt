@@ -3,7 +3,7 @@
 ghost use Rattle.std.specs.Prelude.{◌≡◌, ℕ, ◌%◌, ◌<◌, ◌≤◌};
 ghost use Rattle.mvl.specs.Labellings.{complement as complement_of};
 ghost use Rattle.mvl.specs.Answers.{Even, MadeFor};
-ghost use Rattle.mvl.specs.Lawful.{even_laws};
+ghost use Rattle.mvl.specs.Lawful.{even_lawful};
 
 use crate::labelling::Labelling;
 use crate::refusal::Refusal;
@@ -31,7 +31,7 @@ impl Complement {
 impl Labelling for Complement {
     ghost meaning = { λ l. complement_of l.radix };
 
-    ghost lawful = { λ l. even_laws l.radix l.low l.high l.even };
+    ghost lawful = { λ l. even_lawful complement_of tt tt l.radix l.low l.high l.even };
 
     fn radix(&self) -> u8 {
         self.radix

@@ -3,7 +3,7 @@
 ghost use Rattle.std.specs.Prelude.{ℕ, ◌<◌, ◌≤◌};
 ghost use Rattle.mvl.specs.Labellings.{plain as plain_of};
 ghost use Rattle.mvl.specs.Answers.{Small, MadeFor};
-ghost use Rattle.mvl.specs.Lawful.{plain_laws};
+ghost use Rattle.mvl.specs.Lawful.{each_lawful};
 
 use crate::labelling::Labelling;
 use crate::refusal::Refusal;
@@ -30,7 +30,7 @@ impl Plain {
 impl Labelling for Plain {
     ghost meaning = { λ l. plain_of l.radix };
 
-    ghost lawful = { λ l. plain_laws l.radix l.low l.high };
+    ghost lawful = { λ l. each_lawful plain_of tt tt tt l.radix l.low l.high };
 
     fn radix(&self) -> u8 {
         self.radix

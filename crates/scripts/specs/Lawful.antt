@@ -2,7 +2,7 @@
 use Rattle.std.proofs.Common.{rules}
 use Rattle.mvl.specs.Labels.{Laws}
 use Rattle.mvl.specs.Operations.{Closed}
-use Rattle.mvl.specs.Lawful.{plain_laws, even_laws, cyclic_laws}
+use Rattle.mvl.proofs.Labels.Lawful.{plain_laws, even_laws, cyclic_laws}
 use Rattle.operations.specs.Turnings.{turned_closed}
 use Rattle.scripts.specs.declared.any_labelling.AnyLabelling.{AnyLabelling}
 use Rattle.scripts.specs.declared.any_labelling.AnyLabelling.TheVariants.{Plain, Complement, Cyclic}

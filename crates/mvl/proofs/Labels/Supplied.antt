@@ -3,7 +3,7 @@ use Rattle.std.proofs.Common.{◌≡◌, ℕ, zero, suc, ◌+◌, ◌-◌, ◌/�
 use native.Mathlib.Nat.{mod_self, add-mod, mod-add-mod, add-mod-mod}
 use Rattle.mvl.specs.Labels.{product, inverse, home_label}
 use Rattle.mvl.specs.Labellings.{plain, complement, cyclic}
-use Rattle.mvl.specs.Lawful.{plain_laws, even_laws, cyclic_laws}
+use Rattle.mvl.proofs.Labels.Lawful.{plain_laws, even_laws, cyclic_laws}
 use Rattle.mvl.proofs.Labels.Told.{product_told, inverse_told, home_label_told}
 
 -- what holds of labels 0 and 1 holds of each of two labels
