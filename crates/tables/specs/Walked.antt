@@ -8,7 +8,7 @@ use Rattle.diagrams.specs.Refusals.{is_edge}
 use Rattle.diagrams.specs.Walk.{Walk as Way}
 use Rattle.tables.specs.declared.parts.edge.Edge.{Edge}
 use Rattle.tables.specs.declared.engine.task.Task.{Task}
-use Rattle.tables.specs.declared.calls.diagrams.Diagrams.{Diagrams}
+use Rattle.tables.specs.declared.calls.holding.Diagrams.{Diagrams}
 use Rattle.tables.specs.Edges.{arrow}
 use Rattle.tables.specs.Cards.{shape_of, capacity_of}
 use Rattle.tables.specs.Stores.{items}

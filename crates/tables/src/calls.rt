@@ -1,7 +1,7 @@
 //! The calls of a table.
 
 pub(crate) mod asking;
-pub(crate) mod diagrams;
+pub(crate) mod holding;
 pub(crate) mod evaluating;
 pub mod reading;
 pub mod table;

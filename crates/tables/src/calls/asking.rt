@@ -6,7 +6,7 @@ ghost use Rattle.diagrams.specs.Refusals.{is_edge};
 ghost use Rattle.tables.specs.Edges.{arrow};
 ghost use Rattle.tables.specs.Did.{meaning_of, nodes_of, answer_of, Did, Opens};
 
-use crate::calls::diagrams::Diagrams;
+use crate::calls::holding::Diagrams;
 use crate::engine::labels::{home, product};
 use crate::engine::rows::constant_edge;
 use crate::parts::card::Card;

@@ -8,7 +8,7 @@ ghost use Rattle.tables.specs.Cards.{shape_of};
 ghost use Rattle.tables.specs.Did.{meaning_of, nodes_of, table_of};
 ghost use Rattle.tables.specs.Evaluates.{assigned, Evaluates};
 
-use crate::calls::diagrams::Diagrams;
+use crate::calls::holding::Diagrams;
 use crate::calls::reading::Reading;
 use crate::engine::labels::{carry, product};
 use crate::parts::edge::Edge;

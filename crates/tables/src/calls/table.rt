@@ -7,7 +7,7 @@ ghost use Rattle.tables.specs.Edges.{arrow};
 ghost use Rattle.tables.specs.Did.{meaning_of, table_of, answer_of, Did, Fresh};
 ghost use Rattle.tables.specs.Evaluates.{Evaluates};
 
-use crate::calls::diagrams::Diagrams;
+use crate::calls::holding::Diagrams;
 use crate::calls::reading::Reading;
 use crate::parts::card::Card;
 use crate::parts::edge::Edge;

@@ -3,7 +3,7 @@
 ghost use Rattle.diagrams.specs.Calls.{asks, variable as varying, literal as choosing};
 ghost use Rattle.tables.specs.Did.{answer_of, Did};
 
-use crate::calls::diagrams::Diagrams;
+use crate::calls::holding::Diagrams;
 use crate::engine::making::make_in;
 use crate::engine::rows::{chosen, constants};
 use crate::parts::edge::Edge;

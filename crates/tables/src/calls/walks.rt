@@ -8,7 +8,7 @@ ghost use Rattle.tables.specs.Did.{meaning_of, nodes_of, answer_of, Did};
 ghost use Rattle.tables.specs.Walks.{walk_of, task_of};
 ghost use Rattle.tables.specs.Walked.{Walked, Fits};
 
-use crate::calls::diagrams::Diagrams;
+use crate::calls::holding::Diagrams;
 use crate::engine::answering::answers_of;
 use crate::engine::running::walk_in;
 use crate::engine::task::{Task, Walk};

@@ -8,4 +8,4 @@ pub returns : goal.returns
 returns c =
     λ h. let o = c.args.operation.now in
     fours 0 (λ b v. v ≡ (chosen_meaning o).answer c.args.left b) (chosen_meaning o).radix (chosen_closed o).radix_high
-    (c.answer-at.ensures h) (c.answer-at-2.ensures h) (c.answer-at-3.ensures h) (c.answer-at-4.ensures h)
+    (c.answer_at.ensures h) (c.answer_at-2.ensures h) (c.answer_at-3.ensures h) (c.answer_at-4.ensures h)

@@ -11,5 +11,5 @@ returns c =
       c.radix-radix.ensures,
       c.radix-radix.ensures,
       fours [] (λ a row. Lists (chosen_meaning o).radix ((chosen_meaning o).answer a) row) (chosen_meaning o).radix (chosen_closed o).radix_high
-          c.answer-row.ensures c.answer-row-2.ensures c.answer-row-3.ensures c.answer-row-4.ensures,
+          c.answer_row.ensures c.answer_row-2.ensures c.answer_row-3.ensures c.answer_row-4.ensures,
     )

@@ -11,5 +11,5 @@ returns c =
       c.labels.ensures,
       c.radix.ensures,
       fours [] (λ k row. Lists (labelling_meaning l).radix ((labelling_meaning l).carry k) row) (labelling_meaning l).labels (labelling_laws l).labels_high
-          c.carry-row.ensures c.carry-row-2.ensures c.carry-row-3.ensures c.carry-row-4.ensures,
+          c.carry_row.ensures c.carry_row-2.ensures c.carry_row-3.ensures c.carry_row-4.ensures,
     )

@@ -8,4 +8,4 @@ pub returns : goal.returns
 returns c =
     λ h. let l = c.args.labelling.now in
     fours 0 (λ v w. w ≡ (labelling_meaning l).carry c.args.label v) (labelling_meaning l).radix (labelling_laws l).radix_high
-    (c.carry-at.ensures h) (c.carry-at-2.ensures h) (c.carry-at-3.ensures h) (c.carry-at-4.ensures h)
+    (c.carry_at.ensures h) (c.carry_at-2.ensures h) (c.carry_at-3.ensures h) (c.carry_at-4.ensures h)

@@ -32,7 +32,7 @@ returns-then-r-card c =
     let back = c.inverse.ensures.value ∙ ap (inverse (chart_meaning c.args.chart.now)) c.label-label.ensures.value in
     record {
       whole = c.requires.whole;
-      makes = made_refused l sl c.requires.whole.sound c.requires.asks back c.turned-normal.ensures c.if-alike.ensures c.in-default.ensures (omega arith);
+      makes = made_refused l sl c.requires.whole.sound c.requires.asks back c.turned-normal.ensures c.if-alike.ensures c.in_default.ensures (omega arith);
     }
 
 pub returns : goal.returns
@@ -45,9 +45,9 @@ returns c =
     record {
       whole = record {
         room = c.push.ensures.limit ∙ c.requires.whole.room;
-        sound = sound_added l sl c.requires.whole.sound c.requires.asks back c.turned-normal.ensures c.if-alike.ensures c.in-default.ensures
+        sound = sound_added l sl c.requires.whole.sound c.requires.asks back c.turned-normal.ensures c.if-alike.ensures c.in_default.ensures
             S.wide c.hash.ensures.value c.hash.ensures.bound c.push.ensures.items c.push.ensures.heads;
       };
-      makes = made_added l sl c.requires.whole.sound c.requires.asks back c.turned-normal.ensures c.if-alike.ensures c.in-default.ensures
+      makes = made_added l sl c.requires.whole.sound c.requires.asks back c.turned-normal.ensures c.if-alike.ensures c.in_default.ensures
           (get_or S.heads c.hash.result none) c.push.ensures.items same;
     }

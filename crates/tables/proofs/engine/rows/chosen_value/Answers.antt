@@ -3,8 +3,8 @@ use Rattle.mvl.specs.Tests.{cond_equal, cond_other}
 use Rattle.mvl.specs.Charted.{chart_laws}
 use Rattle.tables.proofs.engine.rows.chosen_value.Goals as goal
 
-pub overflow-sub-result : goal.overflow-sub-result
-overflow-sub-result c = omega (arith, (chart_laws c.args.chart.now).radix_low)
+pub overflow_sub-result : goal.overflow_sub-result
+overflow_sub-result c = omega (arith, (chart_laws c.args.chart.now).radix_low)
 
 pub returns-then-i-v : goal.returns-then-i-v
 returns-then-i-v c = record {

@@ -37,20 +37,20 @@ pub loop-store-preserved-in-Split : goal.loop-store-preserved-in-Split
 loop-store-preserved-in-Split c =
     push_again c.loop-store.invariant c.if-top-card.true c.child-next.result c.child-next.ensures c.in-Split.ensures c.of.ensures
 
-pub make-in-requires : goal.make-in-requires
-make-in-requires c = record { whole = c.loop-store.invariant.whole; asks = full_asks c.loop-store.invariant c.if-top-card.false }
+pub make_in-requires : goal.make_in-requires
+make_in-requires c = record { whole = c.loop-store.invariant.whole; asks = full_asks c.loop-store.invariant c.if-top-card.false }
 
 pub returns-then-k-eq0 : goal.returns-then-k-eq0
-returns-then-k-eq0 c = full_gained c.loop-store.invariant c.if-top-card.false c.make-in.ensures.whole c.in-Ok.ensures.makes c.if-k-eq0.true
+returns-then-k-eq0 c = full_gained c.loop-store.invariant c.if-top-card.false c.make_in.ensures.whole c.in-Ok.ensures.makes c.if-k-eq0.true
 
 pub with-requires-in-Ok : goal.with-requires-in-Ok
-with-requires-in-Ok c = below_few c.loop-store.invariant c.if-top-card.false c.make-in.ensures.whole c.in-Ok.ensures.makes (omega arith)
+with-requires-in-Ok c = below_few c.loop-store.invariant c.if-top-card.false c.make_in.ensures.whole c.in-Ok.ensures.makes (omega arith)
 
 pub loop-store-smaller : goal.loop-store-smaller
-loop-store-smaller c = pop_less c.loop-store.invariant c.if-top-card.false c.make-in.ensures.whole c.in-Ok.ensures.makes (omega arith) c.with-in-Ok.ensures
+loop-store-smaller c = pop_less c.loop-store.invariant c.if-top-card.false c.make_in.ensures.whole c.in-Ok.ensures.makes (omega arith) c.with-in-Ok.ensures
 
 pub loop-store-preserved : goal.loop-store-preserved
-loop-store-preserved c = pop_again c.loop-store.invariant c.if-top-card.false c.make-in.ensures.whole c.in-Ok.ensures.makes (omega arith) c.with-in-Ok.ensures
+loop-store-preserved c = pop_again c.loop-store.invariant c.if-top-card.false c.make_in.ensures.whole c.in-Ok.ensures.makes (omega arith) c.with-in-Ok.ensures
 
 pub returns-in-Err : goal.returns-in-Err
-returns-in-Err c = full_short c.loop-store.invariant c.if-top-card.false c.make-in.ensures.whole c.in-Err.ensures.makes
+returns-in-Err c = full_short c.loop-store.invariant c.if-top-card.false c.make_in.ensures.whole c.in-Err.ensures.makes

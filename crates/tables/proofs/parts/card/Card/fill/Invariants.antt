@@ -3,4 +3,4 @@ use Rattle.tables.specs.Orders.{Sized}
 use Rattle.tables.proofs.parts.card.Card.fill.Given as goal
 
 abbrev pub invariant-loop-i : goal.invariant-loop-i
-invariant-loop-i l = (length l.own_val ≡ 12) × Sized l.i l.own_val × ((k : ℕ) → k < l.i → get_or l.own_val k 0 ≡ get_or l.sizes k 0)
+invariant-loop-i l = (length l.own ≡ 12) × Sized l.i l.own × ((k : ℕ) → k < l.i → get_or l.own k 0 ≡ get_or l.sizes k 0)

@@ -1,5 +1,5 @@
 use Rattle.tables.proofs.Applying.{apply_unfit, apply_of, apply_fair, apply_did}
-use Rattle.tables.proofs.calls.diagrams.Diagrams.apply.Goals as goal
+use Rattle.tables.proofs.calls.holding.Diagrams.apply.Goals as goal
 
 pub returns-in-Err : goal.returns-in-Err
 returns-in-Err g c =
@@ -9,13 +9,13 @@ pub walk-requires : goal.walk-requires
 walk-requires g c =
     let D = c.args.self.now in
     let o = g.O.Operation.meaning c.args.operation.now in
-    let fit = c.in-default.ensures in
+    let fit = c.in_default.ensures in
     record {
-      fair = apply_fair D o c.args.e c.args.f c.radix.ensures fit (g.met.O.Operation.closed c.args.operation.now) c.answers-of-answers.result c.answers-of-answers.ensures;
+      fair = apply_fair D o c.args.e c.args.f c.radix.ensures fit (g.met.O.Operation.closed c.args.operation.now) c.answers_of-answers.result c.answers_of-answers.ensures;
       of = apply_of D o c.args.e c.args.f c.radix.ensures fit;
     }
 
 pub returns : goal.returns
 returns g c =
-    apply_did c.args.self.now (g.O.Operation.meaning c.args.operation.now) c.args.e c.args.f c.radix.ensures c.in-default.ensures
-    (g.met.O.Operation.closed c.args.operation.now) c.answers-of-answers.result c.answers-of-answers.ensures c.walk.result c.walk.ensures
+    apply_did c.args.self.now (g.O.Operation.meaning c.args.operation.now) c.args.e c.args.f c.radix.ensures c.in_default.ensures
+    (g.met.O.Operation.closed c.args.operation.now) c.answers_of-answers.result c.answers_of-answers.ensures c.walk.result c.walk.ensures

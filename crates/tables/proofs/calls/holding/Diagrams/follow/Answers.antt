@@ -7,7 +7,7 @@ use Rattle.tables.specs.Cards.{shape_of}
 use Rattle.tables.specs.Evaluates.{assigned}
 use Rattle.tables.specs.Did.{meaning_of, nodes_of}
 use Rattle.tables.proofs.Following.{within, visited_low, read_variable, read_value, read_label, read_on, terminal_low, value_there, visited_there, visited_few, follow_start}
-use Rattle.tables.proofs.calls.diagrams.Diagrams.follow.Goals as goal
+use Rattle.tables.proofs.calls.holding.Diagrams.follow.Goals as goal
 
 pub loop-target-init : goal.loop-target-init
 loop-target-init c =
@@ -29,8 +29,8 @@ product-label-requires c =
     let low = read_label c.args.self.now c.requires.assigns c.loop-target.invariant c.loop-target-test.true c.read-node.ensures in
     record { first = c.loop-target.invariant.over.label_within; second = omega (arith, low, c.label.ensures.value) }
 
-pub overflow-add-visited : goal.overflow-add-visited
-overflow-add-visited c = omega (arith, visited_low c.args.self.now c.requires.assigns c.loop-target.invariant c.loop-target-test.true, c.args.self.now.card.few)
+pub overflow_add-visited : goal.overflow_add-visited
+overflow_add-visited c = omega (arith, visited_low c.args.self.now c.requires.assigns c.loop-target.invariant c.loop-target-test.true, c.args.self.now.card.few)
 
 pub loop-target-smaller : goal.loop-target-smaller
 loop-target-smaller c = omega (arith, visited_low c.args.self.now c.requires.assigns c.loop-target.invariant c.loop-target-test.true)
