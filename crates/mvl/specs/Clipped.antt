@@ -1,5 +1,5 @@
 -- A meaning with nothing said where there is nothing to carry. Assumes nothing.
-use Rattle.std.specs.Prelude.{ℕ, cond, ◌&&◌, nat_lt}
+use Rattle.std.specs.Prelude.{cond, ◌&&◌, nat_lt}
 use Rattle.mvl.specs.Labels.{Meaning}
 
 -- the meaning with carry 0 where there is no such label or no such value: it is exactly the radix, the labels and what labels make of values,

@@ -1,6 +1,6 @@
 -- The laws as a test over every label and value: what passes it keeps them. Assumes nothing.
-use Rattle.std.specs.Prelude.{◌≡◌, ℕ, zero, suc, ◌%◌, ◌<◌, ◌≤◌, Bool, not, ◌&&◌, ◌||◌, T, ◌⊎◌, ◌==◌, nat_eq, nat_le, nat_lt, refl}
-use Rattle.std.proofs.Common.{inl, inr, ⊎_elim, arith, eqb→eq, ltb→lt, leb→le, T_not, lit<}
+use Rattle.std.specs.Prelude.{◌≡◌, ℕ, zero, suc, ◌%◌, ◌<◌, ◌≤◌, Bool, not, ◌&&◌, ◌||◌, T, ◌==◌, nat_eq, nat_le, nat_lt}
+use Rattle.std.proofs.Common.{⊎_elim, arith, eqb→eq, ltb→lt, leb→le, T_not}
 use Rattle.mvl.specs.Search.{all_below}
 use Rattle.mvl.specs.Labels.{Meaning, product, inverse, Laws}
 use Rattle.mvl.specs.Tests.{equal_passes, and_left, and_right, or_either}

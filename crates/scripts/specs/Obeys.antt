@@ -10,7 +10,6 @@ use Rattle.scripts.specs.declared.kinds.OperationKind.{OperationKind}
 use Rattle.scripts.specs.declared.any_labelling.AnyLabelling.{AnyLabelling}
 use Rattle.scripts.specs.declared.any_operation.AnyOperation.{AnyOperation}
 use Rattle.scripts.specs.declared.any_operation.AnyOperation.TheVariants.{Table}
-use Rattle.scripts.specs.declared.chosen.Chosen.{Chosen}
 use Rattle.scripts.specs.declared.chosen.Chosen.TheVariants.{Alone, Turned}
 use Rattle.scripts.specs.declared.grid.Grid.{Grid}
 use Rattle.scripts.specs.declared.reply.Reply.{Reply}

@@ -1,5 +1,5 @@
 -- Calls that are walks: when they are refused, and what they gain. Assumes nothing.
-use Rattle.std.proofs.Common.{◌≡◌, ℕ, ◌<◌, ◌≤◌, Bool, true, false, T, eqb, ltb, leb, List, get_or, Ok, Err, Result, sym, refl, ◌∙◌, subst, arith, le→leb, eqb→eq, ltb→lt, lt→ltb, leb→le}
+use Rattle.std.proofs.Common.{◌≡◌, ℕ, ◌<◌, ◌≤◌, Bool, true, false, eqb, ltb, List, get_or, Ok, Err, Result, sym, refl, ◌∙◌, subst, arith, le→leb, eqb→eq, ltb→lt, lt→ltb, leb→le}
 use Rattle.mvl.specs.declared.refusal.Refusal.{Refusal}
 use Rattle.mvl.specs.declared.refusal.Refusal.TheVariants.{NoEdge, NoVariable, NoValue, WrongRadix, NoRoom}
 use Rattle.mvl.specs.Labels.{Meaning}

@@ -5,7 +5,7 @@ use Rattle.mvl.specs.Charts.{chart_meaning}
 use Rattle.mvl.specs.declared.chart.Chart.{Chart}
 use Rattle.mvl.specs.declared.refusal.Refusal.{Refusal}
 use Rattle.mvl.specs.Charted.{chart_laws}
-use Rattle.diagrams.specs.Diagram.{node, Stands, Of}
+use Rattle.diagrams.specs.Diagram.{Stands, Of}
 use Rattle.diagrams.specs.Walk.{Fair, TaskOf, child, Settles, Needs, Walk as Way, Task as Pair}
 use Rattle.diagrams.proofs.Walk.Stack.{Piece, Opens, Extends}
 use Rattle.diagrams.proofs.Walk.Frames.{fills_set, pushes_set}
@@ -19,7 +19,7 @@ use Rattle.tables.specs.declared.parts.store.Store.{Store}
 use Rattle.tables.specs.declared.engine.task.Task.{Task}
 use Rattle.tables.specs.declared.engine.frame.Frame.{Frame}
 use Rattle.tables.specs.Edges.{arrow, arrows, unused}
-use Rattle.tables.specs.Records.{at, nodes_in}
+use Rattle.tables.specs.Records.{nodes_in}
 use Rattle.tables.specs.Cards.{shape_of, capacity_of}
 use Rattle.tables.specs.Stores.{items}
 use Rattle.tables.specs.Sounds.{Whole, Grows}

@@ -4,7 +4,7 @@ use Rattle.std.proofs.lemmas.Bool.{cases_lt}
 use Rattle.mvl.specs.Charts.{chart_meaning}
 use Rattle.mvl.specs.declared.chart.Chart.{Chart}
 use Rattle.mvl.specs.Charted.{chart_laws}
-use Rattle.diagrams.specs.Diagram.{Target, node, terminal, level, Of, Stands}
+use Rattle.diagrams.specs.Diagram.{Target, level, Of, Stands}
 use Rattle.diagrams.specs.Build.{constant_edge}
 use Rattle.diagrams.specs.Walk.{applies, restricts, Fair, TaskOf, follow, Settles}
 use Rattle.diagrams.proofs.Walk.Task.{settles_constant, settles_restricted}

@@ -1,8 +1,8 @@
 //! The calls of a table.
 
 pub(crate) mod asking;
-pub(crate) mod holding;
 pub(crate) mod evaluating;
+pub(crate) mod holding;
 pub mod reading;
 pub mod table;
 pub(crate) mod variables;

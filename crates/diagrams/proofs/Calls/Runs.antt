@@ -1,5 +1,5 @@
 -- The law over runs: whatever calls are made, the table stays sound, every edge answered keeps its function, equal functions have one edge, and no diagram is smaller. Assumes nothing.
-use Rattle.std.proofs.Common.{◌≡◌, List, [], ◌∷◌, sym, refl, ap, ◌∙◌, subst, inl, inr}
+use Rattle.std.proofs.Common.{List, [], ◌∷◌, sym, refl, ap, ◌∙◌, subst, inl, inr}
 use Rattle.mvl.specs.Labels.{Meaning, Laws}
 use Rattle.diagrams.specs.Functions.{Agree}
 use Rattle.diagrams.specs.Diagram.{Edge, value, Of}

@@ -1,5 +1,5 @@
 -- The supplied labellings pass the test, and so keep the laws. Assumes nothing.
-use Rattle.std.specs.Prelude.{◌≡◌, ℕ, ◌%◌, ◌≤◌, T, ◌⊎◌, refl}
+use Rattle.std.specs.Prelude.{◌≡◌, ℕ, ◌%◌, ◌≤◌, ◌⊎◌, refl}
 use Rattle.std.proofs.Common.{⊎_elim, arith, lit<}
 use Rattle.mvl.specs.Labels.{Laws}
 use Rattle.mvl.specs.Labellings.{plain, complement, cyclic}

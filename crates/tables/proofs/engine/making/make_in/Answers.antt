@@ -5,7 +5,6 @@ use Rattle.mvl.specs.Charted.{chart_laws}
 use Rattle.diagrams.specs.Diagram.{node}
 use Rattle.diagrams.proofs.Reading.Edges.{edge_same}
 use Rattle.tables.specs.Records.{none}
-use Rattle.tables.specs.Stores.{items}
 use Rattle.tables.proofs.Goals.{goal_of}
 use Rattle.tables.proofs.CardFacts.{shape_laws_of}
 use Rattle.tables.proofs.NodeMade.{made_alike, made_present, made_refused, made_added, sound_added}
