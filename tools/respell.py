@@ -107,18 +107,23 @@ def in_quotes(text, turned):
     return re.sub(r"`[^`]*`", lambda m: respell_line(m.group(0).replace("`", " "), turned, False).replace(" ", "`", 1)[:-1] + "`", text)
 
 
+PARTS = re.compile(r"""(?P<note>//[^\n]*)|(?P<text>"(?:\\.|[^"\\])*"|'(?:\\.|[^'\\])')|(?P<rest>[^"'/]+|.)""", re.S)
+
+
 def respell(path, text, turned):
-    mark = "//" if path.endswith(".rt") else "--"
+    if path.endswith(".rt"):
+        return "".join(
+            m.group(0) if m.group("text") else in_quotes(m.group(0), turned) if m.group("note") else respell_line(m.group(0), turned, False)
+            for m in PARTS.finditer(text)
+        )
     goals = set(re.findall(r" : goal\.(\S+)", text)) if generated(path) else set()
     kept = {k: v for k, v in turned.items() if k not in goals}
+    if path.endswith(".edit"):
+        return "\n".join(respell_line(line, kept, False) for line in text.split("\n"))
     lines = []
     for line in text.split("\n"):
-        if path.endswith(".edit"):
-            lines.append(respell_line(line, kept, False))
-            continue
-        at = comment_at(line, mark)
-        code, note = line[:at], line[at:]
-        lines.append(respell_line(code, kept, generated(path)) + in_quotes(note, kept))
+        at = comment_at(line, "--")
+        lines.append(respell_line(line[:at], kept, generated(path)) + in_quotes(line[at:], kept))
     return "\n".join(lines)
 
 

@@ -5,6 +5,7 @@
 use anyhow::anyhow;
 use scripts::playing::run;
 use scripts::usage::USAGE;
+use std::process::ExitCode;
 use std::{env, fs, io};
 
 // What the program is asked to do.
@@ -66,14 +67,22 @@ fn play_input(rt: &HostRuntime) -> anyhow::Result<()> {
     }
 }
 
-fn main(rt: HostRuntime) -> anyhow::Result<()> {
-    match asked_for(&rt)? {
+fn done(rt: &HostRuntime) -> anyhow::Result<()> {
+    match asked_for(rt)? {
         Request::Help => Ok(print!(rt; "{USAGE}")?),
-        Request::Play(name) => play_file(&rt, name.as_str()),
-        Request::PlayInput => play_input(&rt),
+        Request::Play(name) => play_file(rt, name.as_str()),
+        Request::PlayInput => play_input(rt),
         Request::Nonsense => {
             eprintln!(rt; "jakuvyre: expected one script file (jakuvyre --help says more)")?;
             Err(anyhow!("too many arguments"))
         }
+    }
+}
+
+// Only the status: what a user can mend was told where it was found.
+fn main(rt: HostRuntime) -> ExitCode {
+    match done(&rt) {
+        Ok(()) => ExitCode::SUCCESS,
+        Err(_) => ExitCode::FAILURE,
     }
 }

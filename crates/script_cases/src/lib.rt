@@ -38,7 +38,7 @@ mod tests {
         ),
         (
             "operation plus 4",
-            "line 1: expected min, max, cyclic_sum, truncated_sum or table, found 'plus'",
+            "line 1: expected min, max, cyclic-sum, truncated-sum or table, found 'plus'",
         ),
         (
             "operation min",
@@ -124,8 +124,8 @@ mod tests {
         ("# nothing\n\n   \n", ""),
         ("  say  two  words \nsay\n\tsay\tx", " two  words\n\nx\n"),
         (
-            "operation truncated_sum 3\r\nvalues\r\nask 2 1\r\ntell 2\r\ntell 1\r\n",
-            "operation truncated_sum 3: chosen\nvalues:\n      0 1 2\n  0 | 0 1 2\n  1 | 1 2 2\n  2 | 2 2 2\nask 2 1: 2\ntell 2: 2\ntell 1: none\n",
+            "operation truncated-sum 3\r\nvalues\r\nask 2 1\r\ntell 2\r\ntell 1\r\n",
+            "operation truncated-sum 3: chosen\nvalues:\n      0 1 2\n  0 | 0 1 2\n  1 | 1 2 2\n  2 | 2 2 2\nask 2 1: 2\ntell 2: 2\ntell 1: none\n",
         ),
         (
             "labelling cyclic 3\nlabels\ncarry 2 2\nproduct 1 2\ninverse 1\nhome 2",

@@ -44,8 +44,8 @@ impl OperationKind {
         match word {
             "min" => Some(OperationKind::Minimum),
             "max" => Some(OperationKind::Maximum),
-            "cyclic_sum" => Some(OperationKind::CyclicSum),
-            "truncated_sum" => Some(OperationKind::TruncatedSum),
+            "cyclic-sum" => Some(OperationKind::CyclicSum),
+            "truncated-sum" => Some(OperationKind::TruncatedSum),
             "table" => Some(OperationKind::Table),
             _ => None,
         }
@@ -55,8 +55,8 @@ impl OperationKind {
         match self {
             OperationKind::Minimum => "min",
             OperationKind::Maximum => "max",
-            OperationKind::CyclicSum => "cyclic_sum",
-            OperationKind::TruncatedSum => "truncated_sum",
+            OperationKind::CyclicSum => "cyclic-sum",
+            OperationKind::TruncatedSum => "truncated-sum",
             OperationKind::Table => "table",
         }
     }

@@ -99,7 +99,7 @@ impl fmt::Display for Expected {
         f.write_str(match self {
             Expected::Command => "a command (--help lists them)",
             Expected::LabellingKind => "plain, complement or cyclic",
-            Expected::OperationKind => "min, max, cyclic_sum, truncated_sum or table",
+            Expected::OperationKind => "min, max, cyclic-sum, truncated-sum or table",
             Expected::Number => "a number from 0 to 255",
             Expected::LineEnd => "the end of the line",
         })

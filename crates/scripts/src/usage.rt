@@ -18,8 +18,8 @@ A script has one command to a line. Blank lines and lines that begin with # are 
                          cyclic       labels 0 to P - 1; label K adds K, modulo P
     operation KIND P   choose an operation of radix P:
                          min, max        the smaller, the larger of the two operands
-                         cyclic_sum      the sum modulo P
-                         truncated_sum   the sum, or P - 1 where that is smaller
+                         cyclic-sum      the sum modulo P
+                         truncated-sum   the sum, or P - 1 where that is smaller
                          table           0 for every pair until it is filled
     fill B B ..        fill the table at hand, row by row: byte P * A + B is the answer for (A, B)
     turn I J K         see the operation at hand through the labelling at hand: label I carries the left operand,
