@@ -3,7 +3,7 @@
 ghost use Rattle.std.specs.Prelude.{◌≡◌, ℕ, ◌*◌, ◌<◌, ◌≤◌, T, length, slice_index};
 ghost use Rattle.mvl.specs.Answers.{Small, MadeFor};
 ghost use Rattle.operations.specs.Filling.{table_of, Blank, AllBelow, Fills};
-ghost use Rattle.std.proofs.Common.{rules, arith};
+ghost use Rattle.std.proofs.Common.{rules};
 
 use crate::operation::{Operation, Shortcut};
 use crate::table_operation::TableOperation;
@@ -83,7 +83,7 @@ impl TableOperation {
 impl Operation for TableOperation {
     ghost meaning = { table_of };
 
-    ghost closed = { first_of (Prim.search rules, Prim.grind (arith, Self.row.coded.inj)) };
+    ghost closed = { Prim.search rules };
 
     fn radix(&self) -> u8 {
         self.radix

@@ -3,7 +3,7 @@
 ghost use Rattle.std.specs.Prelude.{ℕ, ◌<◌, ◌≤◌};
 ghost use Rattle.mvl.specs.Operations.{minimum as minimum_of};
 ghost use Rattle.mvl.specs.Answers.{Small, MadeFor};
-ghost use Rattle.std.proofs.Common.{rules, arith};
+ghost use Rattle.std.proofs.Common.{rules};
 
 use crate::operation::{Operation, Shortcut};
 use mvl::refusal::Refusal;
@@ -30,7 +30,7 @@ impl Minimum {
 impl Operation for Minimum {
     ghost meaning = { λ o. minimum_of o.radix };
 
-    ghost closed = { first_of (Prim.search rules, Prim.grind (arith, Self.row.coded.inj)) };
+    ghost closed = { Prim.search rules };
 
     fn radix(&self) -> u8 {
         self.radix
