@@ -67,7 +67,7 @@ fn play_input(rt: &HostRuntime) -> anyhow::Result<()> {
     }
 }
 
-fn done(rt: &HostRuntime) -> anyhow::Result<()> {
+fn fulfil(rt: &HostRuntime) -> anyhow::Result<()> {
     match asked_for(rt)? {
         Request::Help => Ok(print!(rt; "{USAGE}")?),
         Request::Play(name) => play_file(rt, name.as_str()),
@@ -81,7 +81,7 @@ fn done(rt: &HostRuntime) -> anyhow::Result<()> {
 
 // Only the status: what a user can mend was told where it was found.
 fn main(rt: HostRuntime) -> ExitCode {
-    match done(&rt) {
+    match fulfil(&rt) {
         Ok(()) => ExitCode::SUCCESS,
         Err(_) => ExitCode::FAILURE,
     }

@@ -1,5 +1,4 @@
--- Labels act on values: the group laws, the homes, how labels are told, and the labellings that are supplied. Assumes nothing.
--- Labels act on values: the group laws, the homes, the labellings that are supplied, and charts of any labelling. Assumes nothing.
+-- How labels are told, the supplied labellings and their laws, and the rows of a chart. Assumes nothing.
 pub mod Told
 pub mod Lawful
 pub mod Supplied

@@ -25,5 +25,5 @@ pub trait Operation {
 pub trait Shortcut: Operation {
     /// The value that every right operand gives with `left`, none where they give several; 5 where `left` is too large.
     fn tell(&self, left: u8) -> Result<Option<u8>, Refusal>
-        ensures { Tells (Self.Operation.meaning self.now) left result };
+        ensures { Tells (Self.meaning self.now) left result };
 }

@@ -23,7 +23,7 @@ impl<O: Operation, L: Labelling> Turned<O, L> {
     /// All labels are 0: the operation below answers alone.
     pub fn new(below: O, labelling: L) -> Turned<O, L>
         ensures fields { (result.below ≡ below) × (result.labelling ≡ labelling) × (result.left ≡ 0) × (result.right ≡ 0) × (result.answer ≡ 0) }
-        ensures alone { Alone (O.Operation.meaning below) (seen O.Operation.meaning L.Labelling.meaning result) }
+        ensures alone { Alone (O.meaning below) (seen O.meaning L.meaning result) }
     {
         Turned {
             below,
@@ -51,7 +51,7 @@ impl<O: Operation, L: Labelling> Turned<O, L> {
     /// Sets the three labels. Refused with 6 where one is none of the labelling's, else with 8 where the radices of the operation below
     /// and of the labelling differ.
     pub fn set(&mut self, left: u8, right: u8, answer: u8) -> Result<(), Refusal>
-        ensures { Sets O.Operation.meaning L.Labelling.meaning left right answer self.old result self.new }
+        ensures { Sets O.meaning L.meaning left right answer self.old result self.new }
     {
         let labels = self.labelling.labels();
         if left >= labels || right >= labels || answer >= labels {
@@ -68,7 +68,7 @@ impl<O: Operation, L: Labelling> Turned<O, L> {
 
     // Whether there is something to turn, and the two go together.
     fn turns(&self) -> bool
-        ensures { result ≡ turns_by (O.Operation.meaning self.now.below) (L.Labelling.meaning self.now.labelling) self.now.left self.now.right self.now.answer }
+        ensures { result ≡ turns_by (O.meaning self.now.below) (L.meaning self.now.labelling) self.now.left self.now.right self.now.answer }
     {
         if self.left == 0 && self.right == 0 && self.answer == 0 {
             return false;
@@ -82,9 +82,9 @@ impl<O: Operation, L: Labelling> Turned<O, L> {
 }
 
 impl<O: Operation, L: Labelling> Operation for Turned<O, L> {
-    ghost meaning = { seen O.Operation.meaning L.Labelling.meaning };
+    ghost meaning = { seen O.meaning L.meaning };
 
-    ghost closed = { λ t. turned_closed _ _ t.left t.right t.answer (O.Operation.closed t.below) (L.Labelling.lawful t.labelling) };
+    ghost closed = { λ t. turned_closed _ _ t.left t.right t.answer (O.closed t.below) (L.lawful t.labelling) };
 
     fn radix(&self) -> u8 {
         self.below.radix()

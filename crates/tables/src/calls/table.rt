@@ -71,7 +71,7 @@ impl<L: Labelling> Table<L> {
     /// The operation's answer for the values of `e` and `f`. Refused: 3 for either edge, 8 where the operation's radix is not the table's, 14.
     pub fn apply<O: Operation>(&mut self, operation: &O, e: Edge, f: Edge) -> Result<Edge, Refusal>
         ensures labelling { self.new.labelling ≡ self.old.labelling }
-        ensures does { Did self.old.inner (asks (applying (O.Operation.meaning operation.now).radix (O.Operation.meaning operation.now).answer (arrow e) (arrow f))) (answer_of result) self.new.inner }
+        ensures does { Did self.old.inner (asks (applying (O.meaning operation.now).radix (O.meaning operation.now).answer (arrow e) (arrow f))) (answer_of result) self.new.inner }
     {
         self.inner.apply(operation, e, f)
     }
