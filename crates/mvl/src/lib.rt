@@ -12,6 +12,7 @@ pub mod cyclic;
 pub mod labelling;
 pub mod plain;
 mod question;
+pub mod radix;
 pub mod refusal;
 mod rows;
 
