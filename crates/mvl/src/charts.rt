@@ -6,6 +6,7 @@ ghost use Rattle.mvl.specs.Clipped.{clipped};
 ghost use Rattle.mvl.specs.Charts.{chart_meaning};
 ghost use Rattle.mvl.specs.Charted.{chart_laws};
 
+use crate::bounds::{label_below, value_below};
 use crate::chart::Chart;
 use crate::labelling::Labelling;
 use crate::question::Question;
@@ -42,9 +43,7 @@ impl Chart {
     pub fn home(&self, value: u8) -> Result<u8, Refusal>
         ensures { HomeIs (chart_meaning self.now) value result }
     {
-        if value >= self.radix {
-            return Err(Refusal::NoValue);
-        }
+        let value = value_below(self.radix(), value)?;
         Ok(self.homes[value as usize])
     }
 }
@@ -63,33 +62,24 @@ impl Labelling for Chart {
     }
 
     fn carry(&self, label: u8, value: u8) -> Result<u8, Refusal> {
-        if value >= self.radix {
-            return Err(Refusal::NoValue);
-        }
-        if label >= self.labels {
-            return Err(Refusal::NoLabel);
-        }
+        let value = value_below(self.radix(), value)?;
+        let label = label_below(self.labels(), label)?;
         Ok(self.carries[(4 * label + value) as usize])
     }
 
     fn product(&self, a: u8, b: u8) -> Result<u8, Refusal> {
-        if a >= self.labels || b >= self.labels {
-            return Err(Refusal::NoLabel);
-        }
+        let a = label_below(self.labels(), a)?;
+        let b = label_below(self.labels(), b)?;
         Ok(self.products[(4 * a + b) as usize])
     }
 
     fn inverse(&self, a: u8) -> Result<u8, Refusal> {
-        if a >= self.labels {
-            return Err(Refusal::NoLabel);
-        }
+        let a = label_below(self.labels(), a)?;
         Ok(self.inverses[a as usize])
     }
 
     fn home_label(&self, value: u8) -> Result<u8, Refusal> {
-        if value >= self.radix {
-            return Err(Refusal::NoValue);
-        }
+        let value = value_below(self.radix(), value)?;
         Ok(self.home_labels[value as usize])
     }
 }

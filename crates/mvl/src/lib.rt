@@ -5,6 +5,7 @@
 
 #![tactic(auto)]
 
+mod bounds;
 pub mod chart;
 pub mod charts;
 pub mod complement;
