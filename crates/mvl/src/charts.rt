@@ -9,33 +9,22 @@ ghost use Rattle.mvl.specs.Charted.{chart_laws};
 use crate::bounds::{label_below, value_below};
 use crate::chart::Chart;
 use crate::labelling::Labelling;
-use crate::question::Question;
 use crate::refusal::Refusal;
-use crate::rows::fill;
+use crate::rows::{home_of, row};
 
 impl Chart {
     /// The chart of `l`: the same radix, as many labels, and each of them carries each value to the same.
     pub fn of<L: Labelling>(l: &L) -> Chart
         ensures { chart_meaning result ≡ clipped (L.meaning l.now) }
     {
-        let mut carries = [0u8; 16];
-        let mut products = [0u8; 16];
-        let mut inverses = [0u8; 4];
-        let mut homes = [0u8; 4];
-        let mut home_labels = [0u8; 4];
-        fill(l, Question::Carry, &mut carries);
-        fill(l, Question::Product, &mut products);
-        fill(l, Question::Inverse, &mut inverses);
-        fill(l, Question::Home, &mut homes);
-        fill(l, Question::HomeLabel, &mut home_labels);
         Chart {
             radix: l.radix(),
             labels: l.labels(),
-            carries,
-            products,
-            inverses,
-            homes,
-            home_labels,
+            carries: row(|x| l.carry(x / 4, x % 4)),
+            products: row(|x| l.product(x / 4, x % 4)),
+            inverses: row(|a| l.inverse(a)),
+            homes: row(|value| home_of(l, value)),
+            home_labels: row(|value| l.home_label(value)),
         }
     }
 

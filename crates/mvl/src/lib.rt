@@ -12,7 +12,6 @@ pub mod complement;
 pub mod cyclic;
 pub mod labelling;
 pub mod plain;
-mod question;
 pub mod radix;
 pub mod refusal;
 mod rows;
