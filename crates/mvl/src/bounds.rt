@@ -5,24 +5,26 @@ ghost use Rattle.mvl.specs.declared.refusal.Refusal.TheVariants.{NoValue, NoLabe
 
 use crate::refusal::Refusal;
 
-/// `value`, where it is below the radix.
-pub(crate) fn value_below(radix: u8, value: u8) -> Result<u8, Refusal>
+/// `value`, where it is below `radix`; any other is refused with 5.
+pub(crate) fn value_below(value: u8, radix: u8) -> Result<u8, Refusal>
     ensures { Within radix NoValue value value result }
 {
-    if value < radix {
-        Ok(value)
-    } else {
-        Err(Refusal::NoValue)
-    }
+    below(value, radix, Refusal::NoValue)
 }
 
-/// `label`, where there are more labels than that.
-pub(crate) fn label_below(labels: u8, label: u8) -> Result<u8, Refusal>
+/// `label`, where it is below `labels`; any other is refused with 6.
+pub(crate) fn label_below(label: u8, labels: u8) -> Result<u8, Refusal>
     ensures { Within labels NoLabel label label result }
 {
-    if label < labels {
-        Ok(label)
+    below(label, labels, Refusal::NoLabel)
+}
+
+fn below(number: u8, bound: u8, refusal: Refusal) -> Result<u8, Refusal>
+    ensures { Within bound refusal number number result }
+{
+    if number < bound {
+        Ok(number)
     } else {
-        Err(Refusal::NoLabel)
+        Err(refusal)
     }
 }

@@ -32,7 +32,7 @@ impl Chart {
     pub fn home(&self, value: u8) -> Result<u8, Refusal>
         ensures { HomeIs (chart_meaning self.now) value result }
     {
-        let value = value_below(self.radix(), value)?;
+        let value = value_below(value, self.radix())?;
         Ok(self.homes[value as usize])
     }
 }
@@ -51,24 +51,24 @@ impl Labelling for Chart {
     }
 
     fn carry(&self, label: u8, value: u8) -> Result<u8, Refusal> {
-        let value = value_below(self.radix(), value)?;
-        let label = label_below(self.labels(), label)?;
+        let value = value_below(value, self.radix())?;
+        let label = label_below(label, self.labels())?;
         Ok(self.carries[(4 * label + value) as usize])
     }
 
     fn product(&self, a: u8, b: u8) -> Result<u8, Refusal> {
-        let a = label_below(self.labels(), a)?;
-        let b = label_below(self.labels(), b)?;
+        let a = label_below(a, self.labels())?;
+        let b = label_below(b, self.labels())?;
         Ok(self.products[(4 * a + b) as usize])
     }
 
     fn inverse(&self, a: u8) -> Result<u8, Refusal> {
-        let a = label_below(self.labels(), a)?;
+        let a = label_below(a, self.labels())?;
         Ok(self.inverses[a as usize])
     }
 
     fn home_label(&self, value: u8) -> Result<u8, Refusal> {
-        let value = value_below(self.radix(), value)?;
+        let value = value_below(value, self.radix())?;
         Ok(self.home_labels[value as usize])
     }
 }

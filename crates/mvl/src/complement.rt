@@ -43,8 +43,8 @@ impl Labelling for Complement {
     }
 
     fn carry(&self, label: u8, value: u8) -> Result<u8, Refusal> {
-        let value = value_below(self.radix(), value)?;
-        if label_below(self.labels(), label)? == 0 {
+        let value = value_below(value, self.radix())?;
+        if label_below(label, self.labels())? == 0 {
             Ok(value)
         } else {
             Ok(self.radix() - 1 - value)
@@ -52,17 +52,17 @@ impl Labelling for Complement {
     }
 
     fn product(&self, a: u8, b: u8) -> Result<u8, Refusal> {
-        let a = label_below(self.labels(), a)?;
-        let b = label_below(self.labels(), b)?;
+        let a = label_below(a, self.labels())?;
+        let b = label_below(b, self.labels())?;
         Ok((a + b) % 2)
     }
 
     fn inverse(&self, a: u8) -> Result<u8, Refusal> {
-        label_below(self.labels(), a)
+        label_below(a, self.labels())
     }
 
     fn home_label(&self, value: u8) -> Result<u8, Refusal> {
-        let value = value_below(self.radix(), value)?;
+        let value = value_below(value, self.radix())?;
         if value < self.radix() / 2 {
             Ok(0)
         } else {

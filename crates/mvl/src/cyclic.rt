@@ -38,23 +38,23 @@ impl Labelling for Cyclic {
     }
 
     fn carry(&self, label: u8, value: u8) -> Result<u8, Refusal> {
-        let value = value_below(self.radix(), value)?;
-        let label = label_below(self.labels(), label)?;
+        let value = value_below(value, self.radix())?;
+        let label = label_below(label, self.labels())?;
         Ok((value + label) % self.radix())
     }
 
     fn product(&self, a: u8, b: u8) -> Result<u8, Refusal> {
-        let a = label_below(self.labels(), a)?;
-        let b = label_below(self.labels(), b)?;
+        let a = label_below(a, self.labels())?;
+        let b = label_below(b, self.labels())?;
         Ok((a + b) % self.radix())
     }
 
     fn inverse(&self, a: u8) -> Result<u8, Refusal> {
-        let a = label_below(self.labels(), a)?;
+        let a = label_below(a, self.labels())?;
         Ok((self.radix() - a) % self.radix())
     }
 
     fn home_label(&self, value: u8) -> Result<u8, Refusal> {
-        value_below(self.radix(), value)
+        value_below(value, self.radix())
     }
 }

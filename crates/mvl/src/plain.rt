@@ -38,24 +38,24 @@ impl Labelling for Plain {
     }
 
     fn carry(&self, label: u8, value: u8) -> Result<u8, Refusal> {
-        let value = value_below(self.radix(), value)?;
-        label_below(self.labels(), label)?;
+        let value = value_below(value, self.radix())?;
+        label_below(label, self.labels())?;
         Ok(value)
     }
 
     fn product(&self, a: u8, b: u8) -> Result<u8, Refusal> {
-        label_below(self.labels(), a)?;
-        label_below(self.labels(), b)?;
+        label_below(a, self.labels())?;
+        label_below(b, self.labels())?;
         Ok(0)
     }
 
     fn inverse(&self, a: u8) -> Result<u8, Refusal> {
-        label_below(self.labels(), a)?;
+        label_below(a, self.labels())?;
         Ok(0)
     }
 
     fn home_label(&self, value: u8) -> Result<u8, Refusal> {
-        value_below(self.radix(), value)?;
+        value_below(value, self.radix())?;
         Ok(0)
     }
 }
