@@ -1,5 +1,4 @@
--- How labels are told, the supplied labellings and their laws, and the rows of a chart. Assumes nothing.
-pub mod Told
+-- The supplied labellings, their laws and answers, and the rows of a chart. Assumes nothing.
 pub mod Lawful
 pub mod Supplied
 pub mod Filled

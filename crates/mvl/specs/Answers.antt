@@ -17,6 +17,11 @@ abbrev pub MadeFor : {A : Type 0} → (A → ℕ) → (ℕ → Type 0) → ℕ �
 MadeFor radix-of Serves p (Ok a) = Serves p × (radix-of a ≡ p)
 MadeFor radix-of Serves p (Err e) = (Serves p → ⊥) × (e ≡ Unserved)
 
+-- a number that is to be below n: what is answered at it, and how any other is refused
+abbrev pub Within : ℕ → Refusal → ℕ → ℕ → Result ℕ Refusal → Type 0
+Within n refusal x answer (Ok w) = (x < n) × (w ≡ answer)
+Within n refusal x answer (Err e) = (n ≤ x) × (e ≡ refusal)
+
 -- a labelling, asked where label k carries value v: the value is tested first
 abbrev pub Carries : Meaning → ℕ → ℕ → Result ℕ Refusal → Type 0
 Carries m k v (Ok w) = (v < m.radix) × (k < m.labels) × (w ≡ m.carry k v)
@@ -29,18 +34,15 @@ Multiplies m a b (Err e) = (a < m.labels → m.labels ≤ b) × (e ≡ NoLabel)
 
 -- asked for the inverse of a label
 abbrev pub Inverts : Meaning → ℕ → Result ℕ Refusal → Type 0
-Inverts m a (Ok k) = (a < m.labels) × (k ≡ inverse m a)
-Inverts m a (Err e) = (m.labels ≤ a) × (e ≡ NoLabel)
+Inverts m a r = Within m.labels NoLabel a (inverse m a) r
 
 -- asked for the home label of a value
 abbrev pub Homes : Meaning → ℕ → Result ℕ Refusal → Type 0
-Homes m v (Ok k) = (v < m.radix) × (k ≡ home_label m v)
-Homes m v (Err e) = (m.radix ≤ v) × (e ≡ NoValue)
+Homes m v r = Within m.radix NoValue v (home_label m v) r
 
 -- asked for the home of a value
 abbrev pub HomeIs : Meaning → ℕ → Result ℕ Refusal → Type 0
-HomeIs m v (Ok u) = (v < m.radix) × (u ≡ home m v)
-HomeIs m v (Err e) = (m.radix ≤ v) × (e ≡ NoValue)
+HomeIs m v r = Within m.radix NoValue v (home m v) r
 
 -- an operation, asked for a pair of values
 abbrev pub Asks : Binary → ℕ → ℕ → Result ℕ Refusal → Type 0

@@ -1,39 +1,32 @@
 -- What a search over the numbers below a bound finds. Assumes nothing.
-use Rattle.std.specs.Prelude.{◌≡◌, ℕ, zero, suc, ◌+◌, ◌<◌, ◌≤◌, Bool, true, false, cond, ◌&&◌, ◌||◌, T, ◌⊎◌, refl}
-use Rattle.std.proofs.Common.{sym, ap, ap₂, subst, ◌∙◌, inl, inr, ⊎_elim, arith}
+use Rattle.std.specs.Prelude.{◌≡◌, ℕ, zero, suc, ◌+◌, ◌<◌, ◌≤◌, Bool, true, false, cond, ◌&&◌, ◌||◌, T, refl}
+use Rattle.std.proofs.Common.{ap, ap₂, subst, ◌∙◌, ⊎_elim, below_more, arith}
 use Rattle.std.proofs.lemmas.Bool.{cases_eq, cases_lt}
 use Rattle.mvl.specs.Search.{any_below, all_below, first_from, first_below}
 use Rattle.mvl.specs.Tests.{passed, and_left, and_right, and_both, or_left, or_right, or_either}
 
--- the numbers below suc n: n and those below it
-last_or_below : (n i : ℕ) → i < suc n → (i ≡ n) ⊎ (i < n)
-last_or_below n i h = ⊎_elim (λ low. inr low) (λ high. inl (omega arith)) (cases_lt i n)
-
 -- some number passes
 pub any_below_from : (n : ℕ) (p : ℕ → Bool) (i : ℕ) → i < n → T (p i) → T (any_below n p)
-any_below_from zero p i h t = absurd (omega arith)
-any_below_from (suc n) p i h t = go (last_or_below n i h) (any_below_from n p i)
-  where
-    go : (i ≡ n) ⊎ (i < n) → (i < n → T (p i) → T (any_below n p)) → T (p n || any_below n p)
-    go (inl same) before = or_left (p n) (any_below n p) (subst (λ k. T (p k)) same t)
-    go (inr below) before = or_right (p n) (any_below n p) (before below t)
+any_below_from zero p i h = absurd (omega arith)
+any_below_from (suc n) p i h =
+    below_more (λ k. T (p k) → T (p n || any_below n p)) n
+    (λ k low t. or_right (p n) (any_below n p) (any_below_from n p k low t))
+    (λ t. or_left (p n) (any_below n p) t)
+    i (omega arith)
 
 pub any_below_finds : (n : ℕ) (p : ℕ → Bool) → T (any_below n p) → (i : ℕ) × (i < n) × T (p i)
 any_below_finds zero p t = absurd t
-any_below_finds (suc n) p t = go (or_either (p n) (any_below n p) t) (any_below_finds n p)
-  where
-    go : T (p n) ⊎ T (any_below n p) → (T (any_below n p) → (i : ℕ) × (i < n) × T (p i)) → (i : ℕ) × (i < suc n) × T (p i)
-    go (inl here) before = (n, omega arith, here)
-    go (inr below) before = let found = before below in (found.0, omega (arith, found.1), found.2)
+any_below_finds (suc n) p t =
+    ⊎_elim
+    (λ here. (n, omega arith, here))
+    (λ below. let found = any_below_finds n p below in (found.0, omega (arith, found.1), found.2))
+    (or_either (p n) (any_below n p) t)
 
 -- every number passes
 pub all_below_at : (n : ℕ) (p : ℕ → Bool) → T (all_below n p) → (i : ℕ) → i < n → T (p i)
 all_below_at zero p t i h = absurd (omega arith)
-all_below_at (suc n) p t i h = go (last_or_below n i h) (all_below_at n p (and_right (p n) (all_below n p) t) i)
-  where
-    go : (i ≡ n) ⊎ (i < n) → (i < n → T (p i)) → T (p i)
-    go (inl same) before = subst (λ k. T (p k)) (sym same) (and_left (p n) (all_below n p) t)
-    go (inr below) before = before below
+all_below_at (suc n) p t i h =
+    below_more (λ k. T (p k)) n (all_below_at n p (and_right (p n) (all_below n p) t)) (and_left (p n) (all_below n p) t) i (omega arith)
 
 pub all_below_from : (n : ℕ) (p : ℕ → Bool) → ((i : ℕ) → i < n → T (p i)) → T (all_below n p)
 all_below_from zero p h = tt

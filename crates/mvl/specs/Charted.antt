@@ -1,6 +1,6 @@
 -- Every chart keeps the laws, and its rows have the answers. Assumes nothing.
-use Rattle.std.specs.Prelude.{◌≡◌, ℕ, ◌+◌, ◌*◌, ◌/◌, ◌%◌, ◌<◌, slice_index}
-use Rattle.std.proofs.Common.{sym, ap₂, ◌∙◌, arith}
+use Rattle.std.specs.Prelude.{◌≡◌, ℕ, ◌+◌, ◌*◌, ◌<◌, slice_index}
+use Rattle.std.proofs.Common.{sym}
 use Rattle.mvl.specs.Labels.{Laws, product, inverse, home, home_label}
 use Rattle.mvl.specs.Charts.{chart_meaning}
 use Rattle.mvl.specs.declared.chart.Chart.{Chart}
@@ -15,17 +15,13 @@ module _ (c : Chart) where
   carry_at k v hk hv = sym (clip_carry (record { radix = c.radix; labels = c.labels; carry = λ k v. slice_index c.carries (4 * k + v) }) k v hk hv)
 
   pub product_at : (a b : ℕ) → a < c.labels → b < c.labels → slice_index c.products (4 * a + b) ≡ product (chart_meaning c) a b
-  product_at a b ha hb =
-      let few = c.few in
-      let first : (4 * a + b) / 4 ≡ a = omega arith in
-      let second : (4 * a + b) % 4 ≡ b = omega arith in
-      c.products_told (4 * a + b) (omega arith) (omega arith, omega arith) ∙ ap₂ (product (chart_meaning c)) first second
+  product_at = c.products_told
 
   pub inverse_at : (a : ℕ) → a < c.labels → slice_index c.inverses a ≡ inverse (chart_meaning c) a
-  inverse_at a ha = c.inverses_told a (omega (arith, c.few)) ha
+  inverse_at = c.inverses_told
 
   pub home_at : (v : ℕ) → v < c.radix → slice_index c.homes v ≡ home (chart_meaning c) v
-  home_at v hv = c.homes_told v (omega (arith, c.small)) hv
+  home_at = c.homes_told
 
   pub home_label_at : (v : ℕ) → v < c.radix → slice_index c.home_labels v ≡ home_label (chart_meaning c) v
-  home_label_at v hv = c.home_labels_told v (omega (arith, c.small)) hv
+  home_label_at = c.home_labels_told

@@ -1,14 +1,11 @@
 -- The laws as a test over every label and value: what passes it keeps them. Assumes nothing.
 use Rattle.std.specs.Prelude.{◌≡◌, ℕ, zero, suc, ◌%◌, ◌<◌, ◌≤◌, Bool, not, ◌&&◌, ◌||◌, T, ◌==◌, nat_eq, nat_le, nat_lt}
 use Rattle.std.proofs.Common.{⊎_elim, arith, eqb→eq, ltb→lt, leb→le, T_not}
+use Rattle.std.proofs.Math.Facts.{and_yes}
 use Rattle.mvl.specs.Search.{all_below}
 use Rattle.mvl.specs.Labels.{Meaning, product, inverse, Laws}
-use Rattle.mvl.specs.Tests.{equal_passes, and_left, and_right, or_either}
+use Rattle.mvl.specs.Tests.{equal_passes, or_either}
 use Rattle.mvl.specs.Below.{all_below_at}
-
--- both of two tests
-both : (a b : Bool) → T (a && b) → T a × T b
-both a b t = (and_left a b t, and_right a b t)
 
 -- a test of every pair
 each_pair : (n k : ℕ) (p : ℕ → ℕ → Bool) → T (all_below n (λ i. all_below k (p i))) → (i j : ℕ) → i < n → j < k → T (p i j)
@@ -49,18 +46,18 @@ module _ (m : Meaning) where
   -- a labelling that passes them keeps the laws
   pub lawful_laws : T lawful → Laws m
   lawful_laws t =
-      let p = both sizes (carrying && acting) t in
-      let z = both (nat_le 2 m.radix && nat_le m.radix 4) (nat_le 1 m.labels && nat_le m.labels 4) p.0 in
-      let r = both (nat_le 2 m.radix) (nat_le m.radix 4) z.0 in
-      let g = both (nat_le 1 m.labels) (nat_le m.labels 4) z.1 in
-      let q = both carrying acting p.1 in
-      let c = both (all_below m.labels (λ k. all_below m.radix (stays_within k))) (all_below m.radix stands_still) q.0 in
-      let x = both (all_below m.labels (λ a. all_below m.labels (multiplies a)))
+      let p = and_yes sizes (carrying && acting) t in
+      let z = and_yes (nat_le 2 m.radix && nat_le m.radix 4) (nat_le 1 m.labels && nat_le m.labels 4) p.0 in
+      let r = and_yes (nat_le 2 m.radix) (nat_le m.radix 4) z.0 in
+      let g = and_yes (nat_le 1 m.labels) (nat_le m.labels 4) z.1 in
+      let q = and_yes carrying acting p.1 in
+      let c = and_yes (all_below m.labels (λ k. all_below m.radix (stays_within k))) (all_below m.radix stands_still) q.0 in
+      let x = and_yes (all_below m.labels (λ a. all_below m.labels (multiplies a)))
       (all_below m.labels inverts && all_below m.labels (λ a. all_below m.labels (tells_apart a))) q.1 in
-      let y = both (all_below m.labels inverts) (all_below m.labels (λ a. all_below m.labels (tells_apart a))) x.1 in
-      let times = λ (a b : ℕ) (ha : a < m.labels) (hb : b < m.labels). both (nat_lt (product m a b) m.labels)
+      let y = and_yes (all_below m.labels inverts) (all_below m.labels (λ a. all_below m.labels (tells_apart a))) x.1 in
+      let times = λ (a b : ℕ) (ha : a < m.labels) (hb : b < m.labels). and_yes (nat_lt (product m a b) m.labels)
       (all_below m.radix (λ v. nat_eq (m.carry (product m a b) v) (m.carry a (m.carry b v)))) (each_pair m.labels m.labels multiplies x.0 a b ha hb) in
-      let back = λ (a : ℕ) (ha : a < m.labels). both (nat_lt (inverse m a) m.labels) (all_below m.radix (λ v. nat_eq (m.carry (inverse m a) (m.carry a v)) v))
+      let back = λ (a : ℕ) (ha : a < m.labels). and_yes (nat_lt (inverse m a) m.labels) (all_below m.radix (λ v. nat_eq (m.carry (inverse m a) (m.carry a v)) v))
       (all_below_at m.labels inverts y.0 a ha) in
       record {
         radix_low = leb→le 2 m.radix r.0;

@@ -1,38 +1,21 @@
--- The rows of a chart: what each place of them is for, and has. Assumes nothing.
-use Rattle.std.specs.Prelude.{◌≡◌, ℕ, ◌+◌, ◌*◌, ◌/◌, ◌%◌, ◌<◌, List, Result, slice_index}
-use Rattle.mvl.specs.Labels.{Meaning, product, inverse, home, home_label}
+-- The rows of a chart: what each place of them has. Assumes nothing.
+use Rattle.std.specs.Prelude.{◌≡◌, ℕ, ◌+◌, ◌*◌, ◌<◌, List, Result, slice_index}
+use Rattle.std.specs.Result.{result_unwrap_or}
+use Rattle.mvl.specs.Labels.{Meaning}
 use Rattle.mvl.specs.Clipped.{clipped}
-use Rattle.mvl.specs.Answers.{Carries, Multiplies, Inverts, HomeIs, Homes}
 use Rattle.mvl.specs.declared.refusal.Refusal.{Refusal}
-use Rattle.mvl.specs.declared.question.Question.{Question}
-use Rattle.mvl.specs.declared.question.Question.TheVariants.{Carry, Product, Inverse, Home, HomeLabel}
 
--- whether place x of the row has an answer, and which
-abbrev pub Asked : Question → Meaning → ℕ → Type 0
-Asked Carry m x = (x / 4 < m.labels) × (x % 4 < m.radix)
-Asked Product m x = (x / 4 < m.labels) × (x % 4 < m.labels)
-Asked Inverse m x = x < m.labels
-Asked Home m x = x < m.radix
-Asked HomeLabel m x = x < m.radix
+-- each number below n has its answer at that place
+abbrev pub Line : ℕ → (ℕ → ℕ) → List ℕ → Type 0
+Line n answer row = (x : ℕ) → x < n → slice_index row x ≡ answer x
 
-abbrev pub reply : Question → Meaning → ℕ → ℕ
-reply Carry m x = m.carry (x / 4) (x % 4)
-reply Product m x = product m (x / 4) (x % 4)
-reply Inverse m x = inverse m x
-reply Home m x = home m x
-reply HomeLabel m x = home_label m x
+-- each a below n, with each b below k, has its answer at place 4 * a + b
+abbrev pub Grid : ℕ → ℕ → (ℕ → ℕ → ℕ) → List ℕ → Type 0
+Grid n k answer row = (a b : ℕ) → a < n → b < k → slice_index row (4 * a + b) ≡ answer a b
 
--- what a labelling says when it is asked for place x
-abbrev pub Told : Question → Meaning → ℕ → Result ℕ Refusal → Type 0
-Told Carry m x r = Carries m (x / 4) (x % 4) r
-Told Product m x r = Multiplies m (x / 4) (x % 4) r
-Told Inverse m x r = Inverts m x r
-Told Home m x r = HomeIs m x r
-Told HomeLabel m x r = Homes m x r
-
--- each place of the row below n that has an answer holds it
-abbrev pub Row : ℕ → Question → Meaning → List ℕ → Type 0
-Row n q m row = (x : ℕ) → x < n → Asked q m x → slice_index row x ≡ reply q m x
+-- each number below n was told something, and the row has what was told at that place, or 0 where that was a refusal
+abbrev pub Answered : ℕ → (ℕ → Result ℕ Refusal → Type 0) → List ℕ → Type 0
+Answered n Told row = (x : ℕ) → x < n → (r : Result ℕ Refusal) × Told x r × (slice_index row x ≡ result_unwrap_or r 0)
 
 -- what a row of carries means: label k carries value v to what stands at 4 * k + v
 abbrev pub rows_meaning : ℕ → ℕ → List ℕ → Meaning

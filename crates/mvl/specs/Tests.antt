@@ -2,6 +2,9 @@
 use Rattle.std.specs.Prelude.{◌≡◌, ℕ, Bool, true, false, cond, ◌&&◌, ◌||◌, T, ◌⊎◌, ◌==◌, ◌≢◌, refl}
 use Rattle.std.proofs.Common.{sym, subst, inl, inr, eqb→eq}
 use Rattle.std.proofs.Math.Dec.{eqb_refl}
+use Rattle.std.proofs.Math.Facts.{and_yes}
+-- what std has: equal numbers pass the test for it, both of two tests pass, and one of two
+pub use Rattle.std.proofs.Math.Facts.{yes_eqb as equal_passes, yes_and as and_both, or_yes as or_either}
 
 -- a test that is known to be true passes, and one that passes is true
 pub passed : {b : Bool} → b ≡ true → T b
@@ -16,22 +19,12 @@ pub cases_T : (b : Bool) → T b ⊎ (T b → ⊥)
 cases_T true = inl tt
 cases_T false = inr (λ t. t)
 
--- equal numbers pass the test for it
-pub equal_passes : {a b : ℕ} → a ≡ b → T (a == b)
-equal_passes {a} e = subst (λ x. T (a == x)) e (eqb_refl a)
-
--- both of two tests
+-- each of two tests that both pass
 pub and_left : (b c : Bool) → T (b && c) → T b
-and_left true c t = tt
-and_left false c t = t
+and_left b c t = (and_yes b c t).0
 
 pub and_right : (b c : Bool) → T (b && c) → T c
-and_right true c t = t
-and_right false c t = absurd t
-
-pub and_both : (b c : Bool) → T b → T c → T (b && c)
-and_both true c t u = u
-and_both false c t u = t
+and_right b c t = (and_yes b c t).1
 
 -- one of two tests
 pub or_left : (b c : Bool) → T b → T (b || c)
@@ -41,10 +34,6 @@ or_left false c t = absurd t
 pub or_right : (b c : Bool) → T c → T (b || c)
 or_right true c t = tt
 or_right false c t = t
-
-pub or_either : (b c : Bool) → T (b || c) → T b ⊎ T c
-or_either true c t = inl tt
-or_either false c t = inr t
 
 -- what holds of both values of a `cond` holds of it
 pub cond_cases : {A : Type 0} (b : Bool) (x y : A) (P : A → Type 0) → (T b → P x) → ((T b → ⊥) → P y) → P (cond b x y)

@@ -2,11 +2,11 @@
 use Rattle.std.specs.Prelude.{◌≡◌, ℕ}
 use Rattle.std.proofs.Math.Logic.{∥∥₁_elim}
 use Rattle.std.proofs.Math.Bridge.{le_prop}
-use base.Stored.{Coded-set, coded_ℕ}
+use Rattle.std.proofs.Math.Nat.{ℕ_set}
 use Rattle.mvl.specs.Labels.{Meaning, Laws}
 
 pub ℕ-prop : {a b : ℕ} → IsProp (a ≡ b)
-ℕ-prop {a} {b} = Coded-set coded_ℕ a b
+ℕ-prop {a} {b} = ℕ_set a b
 
 pub laws_prop : (m : Meaning) → IsProp (Laws m)
 laws_prop m x y = λ i. record {

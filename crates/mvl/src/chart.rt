@@ -1,9 +1,8 @@
 //! A labelling's answers, kept in small arrays.
 
 ghost use Rattle.std.specs.Prelude.{◌≤◌};
-ghost use Rattle.mvl.specs.Labels.{Laws};
-ghost use Rattle.mvl.specs.Rows.{Row, rows_meaning};
-ghost use Rattle.mvl.specs.declared.question.Question.TheVariants.{Product, Inverse, Home, HomeLabel};
+ghost use Rattle.mvl.specs.Labels.{Laws, product, inverse, home, home_label};
+ghost use Rattle.mvl.specs.Rows.{Line, Grid, rows_meaning};
 
 /// The answers of some labelling: what it makes of a and b stands at 4 * a + b. The `carries` say all: the others follow from them.
 #[derive(Clone, Copy)]
@@ -18,8 +17,8 @@ pub struct Chart {
     ghost small: { radix ≤ 4 },
     ghost few: { labels ≤ 4 },
     ghost lawful: { ∥ Laws (rows_meaning radix labels carries) ∥₁ },
-    ghost products_told: { Row 16 Product (rows_meaning radix labels carries) products },
-    ghost inverses_told: { Row 4 Inverse (rows_meaning radix labels carries) inverses },
-    ghost homes_told: { Row 4 Home (rows_meaning radix labels carries) homes },
-    ghost home_labels_told: { Row 4 HomeLabel (rows_meaning radix labels carries) home_labels },
+    ghost products_told: { Grid labels labels (product (rows_meaning radix labels carries)) products },
+    ghost inverses_told: { Line labels (inverse (rows_meaning radix labels carries)) inverses },
+    ghost homes_told: { Line radix (home (rows_meaning radix labels carries)) homes },
+    ghost home_labels_told: { Line radix (home_label (rows_meaning radix labels carries)) home_labels },
 }

@@ -6,35 +6,25 @@ ghost use Rattle.mvl.specs.Clipped.{clipped};
 ghost use Rattle.mvl.specs.Charts.{chart_meaning};
 ghost use Rattle.mvl.specs.Charted.{chart_laws};
 
+use crate::bounds::{label_below, value_below};
 use crate::chart::Chart;
 use crate::labelling::Labelling;
-use crate::question::Question;
 use crate::refusal::Refusal;
-use crate::rows::fill;
+use crate::rows::{home_of, row};
 
 impl Chart {
     /// The chart of `l`: the same radix, as many labels, and each of them carries each value to the same.
     pub fn of<L: Labelling>(l: &L) -> Chart
         ensures { chart_meaning result ≡ clipped (L.meaning l.now) }
     {
-        let mut carries = [0u8; 16];
-        let mut products = [0u8; 16];
-        let mut inverses = [0u8; 4];
-        let mut homes = [0u8; 4];
-        let mut home_labels = [0u8; 4];
-        fill(l, Question::Carry, &mut carries);
-        fill(l, Question::Product, &mut products);
-        fill(l, Question::Inverse, &mut inverses);
-        fill(l, Question::Home, &mut homes);
-        fill(l, Question::HomeLabel, &mut home_labels);
         Chart {
             radix: l.radix(),
             labels: l.labels(),
-            carries,
-            products,
-            inverses,
-            homes,
-            home_labels,
+            carries: row(|x| l.carry(x / 4, x % 4)),
+            products: row(|x| l.product(x / 4, x % 4)),
+            inverses: row(|a| l.inverse(a)),
+            homes: row(|value| home_of(l, value)),
+            home_labels: row(|value| l.home_label(value)),
         }
     }
 
@@ -42,9 +32,7 @@ impl Chart {
     pub fn home(&self, value: u8) -> Result<u8, Refusal>
         ensures { HomeIs (chart_meaning self.now) value result }
     {
-        if value >= self.radix {
-            return Err(Refusal::NoValue);
-        }
+        let value = value_below(value, self.radix())?;
         Ok(self.homes[value as usize])
     }
 }
@@ -63,33 +51,24 @@ impl Labelling for Chart {
     }
 
     fn carry(&self, label: u8, value: u8) -> Result<u8, Refusal> {
-        if value >= self.radix {
-            return Err(Refusal::NoValue);
-        }
-        if label >= self.labels {
-            return Err(Refusal::NoLabel);
-        }
+        let value = value_below(value, self.radix())?;
+        let label = label_below(label, self.labels())?;
         Ok(self.carries[(4 * label + value) as usize])
     }
 
     fn product(&self, a: u8, b: u8) -> Result<u8, Refusal> {
-        if a >= self.labels || b >= self.labels {
-            return Err(Refusal::NoLabel);
-        }
+        let a = label_below(a, self.labels())?;
+        let b = label_below(b, self.labels())?;
         Ok(self.products[(4 * a + b) as usize])
     }
 
     fn inverse(&self, a: u8) -> Result<u8, Refusal> {
-        if a >= self.labels {
-            return Err(Refusal::NoLabel);
-        }
+        let a = label_below(a, self.labels())?;
         Ok(self.inverses[a as usize])
     }
 
     fn home_label(&self, value: u8) -> Result<u8, Refusal> {
-        if value >= self.radix {
-            return Err(Refusal::NoValue);
-        }
+        let value = value_below(value, self.radix())?;
         Ok(self.home_labels[value as usize])
     }
 }

@@ -5,13 +5,14 @@
 
 #![tactic(auto)]
 
+mod bounds;
 pub mod chart;
 pub mod charts;
 pub mod complement;
 pub mod cyclic;
 pub mod labelling;
 pub mod plain;
-mod question;
+pub mod radix;
 pub mod refusal;
 mod rows;
 

@@ -1,39 +1,36 @@
 //! The labelling with one label, which leaves every value as it is.
 
-ghost use Rattle.std.specs.Prelude.{ℕ, ◌<◌, ◌≤◌};
 ghost use Rattle.mvl.specs.Labellings.{plain as plain_of};
 ghost use Rattle.mvl.specs.Answers.{Small, MadeFor};
 ghost use Rattle.mvl.specs.Lawful.{each_lawful};
 
+use crate::bounds::{label_below, value_below};
 use crate::labelling::Labelling;
+use crate::radix::Radix;
 use crate::refusal::Refusal;
 
 #[derive(Clone, Copy)]
 pub struct Plain {
-    radix: u8,
-    ghost low: { 2 ≤ radix },
-    ghost high: { radix ≤ 4 },
+    radix: Radix,
 }
 
 impl Plain {
     /// For a radix from 2 to 4; any other is refused with 1.
     pub fn new(radix: u8) -> Result<Plain, Refusal>
-        ensures { MadeFor (λ l. l.radix) Small radix result }
+        ensures { MadeFor (λ l. l.radix.value) Small radix result }
     {
-        if radix < 2 || radix > 4 {
-            return Err(Refusal::Unserved);
-        }
+        let radix = Radix::try_from(radix)?;
         Ok(Plain { radix })
     }
 }
 
 impl Labelling for Plain {
-    ghost meaning = { λ l. plain_of l.radix };
+    ghost meaning = { λ l. plain_of l.radix.value };
 
-    ghost lawful = { λ l. each_lawful plain_of tt tt tt l.radix l.low l.high };
+    ghost lawful = { λ l. each_lawful plain_of tt tt tt l.radix.value l.radix.low l.radix.high };
 
     fn radix(&self) -> u8 {
-        self.radix
+        self.radix.get()
     }
 
     fn labels(&self) -> u8 {
@@ -41,34 +38,24 @@ impl Labelling for Plain {
     }
 
     fn carry(&self, label: u8, value: u8) -> Result<u8, Refusal> {
-        if value >= self.radix {
-            return Err(Refusal::NoValue);
-        }
-        if label >= 1 {
-            return Err(Refusal::NoLabel);
-        }
+        let value = value_below(value, self.radix())?;
+        label_below(label, self.labels())?;
         Ok(value)
     }
 
     fn product(&self, a: u8, b: u8) -> Result<u8, Refusal> {
-        if a >= 1 || b >= 1 {
-            return Err(Refusal::NoLabel);
-        }
+        label_below(a, self.labels())?;
+        label_below(b, self.labels())?;
         Ok(0)
     }
 
     fn inverse(&self, a: u8) -> Result<u8, Refusal> {
-        if a >= 1 {
-            return Err(Refusal::NoLabel);
-        }
+        label_below(a, self.labels())?;
         Ok(0)
     }
 
     fn home_label(&self, value: u8) -> Result<u8, Refusal> {
-        if value < self.radix {
-            Ok(0)
-        } else {
-            Err(Refusal::NoValue)
-        }
+        value_below(value, self.radix())?;
+        Ok(0)
     }
 }

@@ -6,23 +6,23 @@ ghost use Rattle.mvl.specs.Reasons.{reason as reason_of, text};
 
 use std::fmt;
 
-/// One name for each reason.
+/// One name for each reason, and its number.
 #[derive(Clone, Copy, Debug, PartialEq, Eq)]
 pub enum Refusal {
-    Unserved,
-    BadCard,
-    NoEdge,
-    NoVariable,
-    NoValue,
-    NoLabel,
-    WrongLength,
-    WrongRadix,
-    ShortMemory,
-    BrokenImage,
-    TooWide,
-    NoPlace,
-    OtherHeader,
-    NoRoom,
+    Unserved = 1,
+    BadCard = 2,
+    NoEdge = 3,
+    NoVariable = 4,
+    NoValue = 5,
+    NoLabel = 6,
+    WrongLength = 7,
+    WrongRadix = 8,
+    ShortMemory = 9,
+    BrokenImage = 10,
+    TooWide = 11,
+    NoPlace = 12,
+    OtherHeader = 13,
+    NoRoom = 14,
 }
 
 impl Refusal {
@@ -30,22 +30,7 @@ impl Refusal {
     pub fn number(&self) -> u8
         ensures { result ≡ number_of self.now }
     {
-        match self {
-            Refusal::Unserved => 1,
-            Refusal::BadCard => 2,
-            Refusal::NoEdge => 3,
-            Refusal::NoVariable => 4,
-            Refusal::NoValue => 5,
-            Refusal::NoLabel => 6,
-            Refusal::WrongLength => 7,
-            Refusal::WrongRadix => 8,
-            Refusal::ShortMemory => 9,
-            Refusal::BrokenImage => 10,
-            Refusal::TooWide => 11,
-            Refusal::NoPlace => 12,
-            Refusal::OtherHeader => 13,
-            Refusal::NoRoom => 14,
-        }
+        *self as u8
     }
 
     /// The reason in words.

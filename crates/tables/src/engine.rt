@@ -1,6 +1,7 @@
 //! Work on the parts of a table.
 
 pub(crate) mod answering;
+pub(crate) mod following;
 pub(crate) mod frame;
 pub(crate) mod labels;
 pub(crate) mod making;

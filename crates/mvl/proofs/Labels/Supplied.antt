@@ -1,65 +1,56 @@
--- The products, inverses and home labels of the labellings that are supplied. Assumes nothing.
-use Rattle.std.proofs.Common.{◌≡◌, ℕ, zero, suc, ◌+◌, ◌-◌, ◌/◌, ◌%◌, ◌<◌, ◌≤◌, sym, refl, ap, ◌∙◌, mod-lt, mod-eq_of_lt, arith}
-use native.Mathlib.Nat.{mod_self, add-mod, mod-add-mod, add-mod-mod}
-use Rattle.mvl.specs.Labels.{product, inverse, home_label}
+-- The products, inverses and home labels of the labellings that are supplied: each formula is tested at every label and value. Assumes nothing.
+use Rattle.std.proofs.Common.{◌≡◌, ℕ, ◌+◌, ◌-◌, ◌/◌, ◌%◌, ◌<◌, Bool, cond, ◌&&◌, T, nat_eq, nat_lt, eqb→eq, arith}
+use Rattle.mvl.specs.Search.{all_below}
+use Rattle.mvl.specs.Tests.{and_left, and_right}
+use Rattle.mvl.specs.Below.{all_below_at}
+use Rattle.mvl.specs.Labels.{Meaning, product, inverse, home_label}
 use Rattle.mvl.specs.Labellings.{plain, complement, cyclic}
-use Rattle.mvl.proofs.Labels.Lawful.{plain_laws, even_laws, cyclic_laws}
-use Rattle.mvl.proofs.Labels.Told.{product_told, inverse_told, home_label_told}
+use Rattle.mvl.specs.Lawful.{radixes}
+use Rattle.mvl.specs.declared.radix.Radix.{Radix}
 
--- what holds of labels 0 and 1 holds of each of two labels
-twos : (P : ℕ → Type 0) → P 0 → P 1 → (k : ℕ) → k < 2 → P k
-twos P one two zero h = one
-twos P one two (suc zero) h = two
-twos P one two (suc (suc k)) h = absurd (omega arith)
+-- formulas for the products, inverses and home labels of a labelling
+pub record Formulas (m : Meaning) (times : ℕ → ℕ → ℕ) (back lift : ℕ → ℕ) : Type 0 where
+  pub product_is : (a b : ℕ) → a < m.labels → b < m.labels → times a b ≡ product m a b
+  pub inverse_is : (a : ℕ) → a < m.labels → back a ≡ inverse m a
+  pub home_label_is : (v : ℕ) → v < m.radix → lift v ≡ home_label m v
 
-module _ (p : ℕ) (low : 2 ≤ p) (high : p ≤ 4) where
-  pub plain_product : (a b : ℕ) → a < 1 → b < 1 → 0 ≡ product (plain p) a b
-  plain_product a b ha hb = product_told (plain_laws p low high) a b 0 ha hb (omega arith) refl
+-- formulas for each radix p
+module _ (f : ℕ → Meaning) (times : ℕ → ℕ → ℕ → ℕ) (back lift : ℕ → ℕ → ℕ) where
+  abbrev multiplies : ℕ → ℕ → Bool
+  multiplies p a = all_below (f p).labels (λ b. nat_eq (times p a b) (product (f p) a b))
 
-  pub plain_inverse : (a : ℕ) → a < 1 → 0 ≡ inverse (plain p) a
-  plain_inverse a ha = inverse_told (plain_laws p low high) a 0 ha (omega arith) refl
+  abbrev inverts : ℕ → ℕ → Bool
+  inverts p a = nat_eq (back p a) (inverse (f p) a)
 
-  pub plain_home_label : (v : ℕ) → v < p → 0 ≡ home_label (plain p) v
-  plain_home_label v hv = home_label_told (plain_laws p low high) v v 0 hv hv (omega arith) refl (λ w j hw hj e. omega arith)
+  abbrev lifts : ℕ → ℕ → Bool
+  lifts p v = nat_eq (lift p v) (home_label (f p) v)
 
--- the home of every value is 0
-module _ (p : ℕ) (low : 2 ≤ p) (high : p ≤ 4) where
-  pub cyclic_product : (a b : ℕ) → a < p → b < p → (a + b) % p ≡ product (cyclic p) a b
-  cyclic_product a b ha hb =
-      let turned : 0 + (a + b) ≡ 0 + b + a = omega arith in
-      product_told (cyclic_laws p low high) a b ((a + b) % p) ha hb (mod-lt (a + b) (omega arith))
-      (add-mod-mod 0 (a + b) p ∙ ap (λ n. n % p) turned ∙ sym (mod-add-mod (0 + b) p a))
+  abbrev fit : ℕ → Bool
+  fit p = all_below (f p).labels (λ a. multiplies p a && inverts p a) && all_below (f p).radix (lifts p)
 
-  pub cyclic_inverse : (a : ℕ) → a < p → (p - a) % p ≡ inverse (cyclic p) a
-  cyclic_inverse a ha =
-      let whole : 0 + a + (p - a) ≡ p = omega arith in
-      inverse_told (cyclic_laws p low high) a ((p - a) % p) ha (mod-lt (p - a) (omega arith))
-      (sym (add-mod (0 + a) (p - a) p) ∙ ap (λ n. n % p) whole ∙ mod_self p)
+  formulas_at : (p : ℕ) → T (fit p) → Formulas (f p) (times p) (back p) (lift p)
+  formulas_at p t =
+      let acts = all_below_at (f p).labels (λ a. multiplies p a && inverts p a) (and_left _ (all_below (f p).radix (lifts p)) t) in
+      record {
+        product_is = λ a b ha hb. eqb→eq _ _ (all_below_at (f p).labels _ (and_left (multiplies p a) (inverts p a) (acts a ha)) b hb);
+        inverse_is = λ a ha. eqb→eq _ _ (and_right (multiplies p a) (inverts p a) (acts a ha));
+        home_label_is = λ v hv. eqb→eq _ _ (all_below_at (f p).radix (lifts p) (and_right _ (all_below (f p).radix (lifts p)) t) v hv);
+      }
 
-  pub cyclic_home_label : (v : ℕ) → v < p → v ≡ home_label (cyclic p) v
-  cyclic_home_label v hv = home_label_told (cyclic_laws p low high) v 0 v hv (omega arith) hv (mod-eq_of_lt {n = 0 + v} (omega arith) ∙ omega arith) (λ w j hw hj e. omega arith)
+  -- they are right where they pass at each radix
+  formulas : T (fit 2) → T (fit 3) → T (fit 4) → (r : Radix) → Formulas (f r.value) (times r.value) (back r.value) (lift r.value)
+  formulas two three four r = formulas_at r.value (radixes (λ p. T (fit p)) two three four r.value r.low r.high)
 
--- the homes are the lower half of the values
-module _ (p : ℕ) (low : 2 ≤ p) (high : p ≤ 4) (even : p % 2 ≡ 0) where
-  pub complement_product : (a b : ℕ) → a < 2 → b < 2 → (a + b) % 2 ≡ product (complement p) a b
-  complement_product a b ha hb =
-      let turn = (complement p).carry in
-      product_told (even_laws p low high even) a b ((a + b) % 2) ha hb (omega arith)
-      (twos (λ a. turn ((a + b) % 2) 0 ≡ turn a (turn b 0))
-      (twos (λ b. turn ((0 + b) % 2) 0 ≡ turn b 0) refl refl b hb)
-      (twos (λ b. turn ((1 + b) % 2) 0 ≡ p - 1 - turn b 0) refl (omega arith) b hb)
-      a ha)
+  -- or at each even one
+  even_formulas : T (fit 2) → T (fit 4) → (r : Radix) → r.value % 2 ≡ 0 → Formulas (f r.value) (times r.value) (back r.value) (lift r.value)
+  even_formulas two four r even =
+      formulas_at r.value (radixes (λ p. p % 2 ≡ 0 → T (fit p)) (λ e. two) (λ e. absurd (omega arith)) (λ e. four) r.value r.low r.high even)
 
-  pub complement_inverse : (a : ℕ) → a < 2 → a ≡ inverse (complement p) a
-  complement_inverse a ha =
-      inverse_told (even_laws p low high even) a a ha ha (twos (λ a. (complement p).carry a ((complement p).carry a 0) ≡ 0) refl (omega arith) a ha)
+pub plain_formulas : (r : Radix) → Formulas (plain r.value) (λ a b. 0) (λ a. 0) (λ v. 0)
+plain_formulas = formulas plain (λ p a b. 0) (λ p a. 0) (λ p v. 0) tt tt tt
 
-  pub complement_low : (v : ℕ) → v < p / 2 → 0 ≡ home_label (complement p) v
-  complement_low v hv =
-      home_label_told (even_laws p low high even) v v 0 (omega arith) (omega arith) (omega arith) refl
-      (λ w j hw hj. twos (λ j. (complement p).carry j w ≡ v → ⊥) (λ e. omega arith) (λ e. omega arith) j hj)
+pub cyclic_formulas : (r : Radix) → Formulas (cyclic r.value) (λ a b. (a + b) % r.value) (λ a. (r.value - a) % r.value) (λ v. v)
+cyclic_formulas = formulas cyclic (λ p a b. (a + b) % p) (λ p a. (p - a) % p) (λ p v. v) tt tt tt
 
-  pub complement_high : (v : ℕ) → v < p → p / 2 ≤ v → 1 ≡ home_label (complement p) v
-  complement_high v hv half =
-      home_label_told (even_laws p low high even) v (p - 1 - v) 1 hv (omega arith) (omega arith) (omega arith)
-      (λ w j hw hj. twos (λ j. (complement p).carry j w ≡ v → ⊥) (λ e. omega arith) (λ e. omega arith) j hj)
+pub complement_formulas : (r : Radix) → r.value % 2 ≡ 0 → Formulas (complement r.value) (λ a b. (a + b) % 2) (λ a. a) (λ v. cond (nat_lt v (r.value / 2)) 0 1)
+complement_formulas = even_formulas complement (λ p a b. (a + b) % 2) (λ p a. a) (λ p v. cond (nat_lt v (p / 2)) 0 1) tt tt

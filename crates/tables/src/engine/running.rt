@@ -9,9 +9,10 @@ ghost use Rattle.tables.specs.Stores.{items};
 ghost use Rattle.tables.specs.Sounds.{Whole};
 ghost use Rattle.tables.specs.Walks.{walk_of, task_of, Walks};
 
+use crate::engine::following::child;
 use crate::engine::frame::Frame;
 use crate::engine::making::make_in;
-use crate::engine::settling::{child, settle};
+use crate::engine::settling::settle;
 use crate::engine::task::{Next, Task, Walk};
 use crate::parts::card::Card;
 use crate::parts::edge::Edge;

@@ -1,79 +1,19 @@
 //! A task is settled, or taken apart at a variable.
 
-ghost use Rattle.std.specs.Prelude.{◌≡◌, ℕ, ◌+◌, ◌-◌, ◌*◌, ◌/◌, ◌%◌, ◌<◌, ◌≤◌, length};
 ghost use Rattle.mvl.specs.Charts.{chart_meaning};
-ghost use Rattle.diagrams.specs.Diagram.{level as level_of};
-ghost use Rattle.diagrams.specs.Walk.{restricts, applies, Fair, TaskOf, follow as follows};
-ghost use Rattle.diagrams.specs.Walk.{child as child_of};
+ghost use Rattle.diagrams.specs.Walk.{restricts, applies, Fair, TaskOf};
 ghost use Rattle.tables.specs.Cards.{shape_of};
-ghost use Rattle.tables.specs.Edges.{arrow};
-ghost use Rattle.tables.specs.Records.{at, nodes_in};
+ghost use Rattle.tables.specs.Records.{nodes_in};
 ghost use Rattle.tables.specs.Stores.{items};
 ghost use Rattle.tables.specs.Sounds.{Whole};
-ghost use Rattle.tables.specs.Walks.{told, walk_of, task_of, Leads, ComesTo};
+ghost use Rattle.tables.specs.Walks.{told, walk_of, task_of, ComesTo};
 
-use crate::engine::labels::{carry, product};
+use crate::engine::following::{follow, level, worth};
 use crate::engine::rows::constant_edge;
 use crate::engine::task::{Next, Task, Walk};
 use crate::parts::card::Card;
-use crate::parts::edge::Edge;
 use crate::parts::store::Store;
 use mvl::chart::Chart;
-
-// The place of an edge's target: a terminal stands below every variable.
-fn level(store: &Store, card: &Card, e: Edge) -> usize
-    requires within { 4 ≤ e.word % 16384 → e.word % 16384 - 4 < length (items store.now) }
-    requires variables { (r : ℕ) → r < length (items store.now) → (at (items store.now) r).variable < card.now.n }
-    ensures { result ≡ level_of (shape_of card.now) (nodes_in (items store.now)) (arrow e).target }
-{
-    let t = e.target();
-    if t < 4 {
-        return card.n;
-    }
-    let node = store.read((t - 4) as usize);
-    card.place[node.variable as usize] as usize
-}
-
-// The edge where variable `x` has value `i`: a node of `x` is gone through, any other target stays.
-fn follow(store: &Store, chart: &Chart, x: u8, i: u8, e: Edge) -> Edge
-    requires value { i < 4 }
-    requires leads { Leads chart.now (items store.now) x i e }
-    ensures { arrow result ≡ follows (chart_meaning chart.now) (nodes_in (items store.now)) x i (arrow e) }
-{
-    let t = e.target();
-    if t < 4 {
-        return e;
-    }
-    let node = store.read((t - 4) as usize);
-    if node.variable != x {
-        return e;
-    }
-    let f = node.edges[i as usize];
-    Edge::to(product(chart, e.label(), f.label()), f.target())
-}
-
-/// The task where variable `x` has value `i`.
-pub(crate) fn child(store: &Store, chart: &Chart, task: Task, x: u8, i: u8) -> Task
-    requires value { i < 4 }
-    requires left { Leads chart.now (items store.now) x i task.left }
-    requires right { Leads chart.now (items store.now) x i task.right }
-    ensures { task_of result ≡ child_of (chart_meaning chart.now) (nodes_in (items store.now)) x i (task_of task) }
-{
-    Task {
-        left: follow(store, chart, x, i, task.left),
-        right: follow(store, chart, x, i, task.right),
-    }
-}
-
-// The value of an edge to a terminal.
-fn worth(chart: &Chart, e: Edge) -> u8
-    requires label { e.word / 16384 < chart.now.labels }
-    requires value { e.word % 16384 < chart.now.radix }
-    ensures value { result ≡ (chart_meaning chart.now).carry (e.word / 16384) (e.word % 16384) }
-    ensures bound { result < chart.now.radix }
-{
-    carry(chart, e.label(), e.target() as u8)
-}
 
 // An operation: two terminals give a constant, and else the topmost target's variable is next.
 fn pair(store: &Store, chart: &Chart, card: &Card, answers: [u8; 16], task: Task) -> Next

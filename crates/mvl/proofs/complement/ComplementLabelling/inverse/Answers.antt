@@ -1,6 +1,6 @@
-use Rattle.std.proofs.Common.{arith}
-use Rattle.mvl.proofs.Labels.Supplied.{complement_inverse}
+use Rattle.std.proofs.Common.{rules}
+use Rattle.mvl.proofs.Labels.Supplied.{complement_formulas}
 use Rattle.mvl.proofs.complement.ComplementLabelling.inverse.Goals as goal
 
 pub returns : goal.returns
-returns c = let l = c.args.self.now in (omega arith, complement_inverse l.radix l.low l.high l.even c.args.a (omega arith))
+returns c = let e = (complement_formulas c.args.self.now.radix c.args.self.now.even).inverse_is c.args.a in search rules

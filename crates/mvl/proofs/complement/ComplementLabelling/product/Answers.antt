@@ -1,6 +1,6 @@
-use Rattle.std.proofs.Common.{arith}
-use Rattle.mvl.proofs.Labels.Supplied.{complement_product}
+use Rattle.std.proofs.Common.{rules}
+use Rattle.mvl.proofs.Labels.Supplied.{complement_formulas}
 use Rattle.mvl.proofs.complement.ComplementLabelling.product.Goals as goal
 
 pub returns : goal.returns
-returns c = let l = c.args.self.now in (omega arith, omega arith, complement_product l.radix l.low l.high l.even c.args.a c.args.b (omega arith) (omega arith))
+returns c = let e = (complement_formulas c.args.self.now.radix c.args.self.now.even).product_is c.args.a c.args.b in search rules

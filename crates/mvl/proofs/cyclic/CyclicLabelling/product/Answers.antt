@@ -1,6 +1,6 @@
-use Rattle.std.proofs.Common.{arith}
-use Rattle.mvl.proofs.Labels.Supplied.{cyclic_product}
+use Rattle.std.proofs.Common.{rules}
+use Rattle.mvl.proofs.Labels.Supplied.{cyclic_formulas}
 use Rattle.mvl.proofs.cyclic.CyclicLabelling.product.Goals as goal
 
 pub returns : goal.returns
-returns c = let l = c.args.self.now in (omega arith, omega arith, cyclic_product l.radix l.low l.high c.args.a c.args.b (omega arith) (omega arith))
+returns c = let e = (cyclic_formulas c.args.self.now.radix).product_is c.args.a c.args.b in search rules

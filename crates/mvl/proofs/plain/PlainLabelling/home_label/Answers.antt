@@ -1,6 +1,6 @@
-use Rattle.std.proofs.Common.{arith}
-use Rattle.mvl.proofs.Labels.Supplied.{plain_home_label}
+use Rattle.std.proofs.Common.{rules}
+use Rattle.mvl.proofs.Labels.Supplied.{plain_formulas}
 use Rattle.mvl.proofs.plain.PlainLabelling.home_label.Goals as goal
 
-pub returns-then-value-self : goal.returns-then-value-self
-returns-then-value-self c = let l = c.args.self.now in (omega arith, plain_home_label l.radix l.low l.high c.args.value (omega arith))
+pub returns : goal.returns
+returns c = let e = (plain_formulas c.args.self.now.radix).home_label_is c.args.value in search rules

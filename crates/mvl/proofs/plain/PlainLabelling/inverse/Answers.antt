@@ -1,6 +1,6 @@
-use Rattle.std.proofs.Common.{arith}
-use Rattle.mvl.proofs.Labels.Supplied.{plain_inverse}
+use Rattle.std.proofs.Common.{rules}
+use Rattle.mvl.proofs.Labels.Supplied.{plain_formulas}
 use Rattle.mvl.proofs.plain.PlainLabelling.inverse.Goals as goal
 
 pub returns : goal.returns
-returns c = let l = c.args.self.now in (omega arith, plain_inverse l.radix l.low l.high c.args.a (omega arith))
+returns c = let e = (plain_formulas c.args.self.now.radix).inverse_is c.args.a in search rules

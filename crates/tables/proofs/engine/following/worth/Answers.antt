@@ -1,7 +1,7 @@
 use Rattle.std.proofs.Common.{◌≡◌, ◌/◌, ◌%◌, ◌<◌, sym, ◌∙◌, subst, ap₂}
 use Rattle.mvl.specs.Charts.{chart_meaning}
 use Rattle.mvl.specs.Charted.{chart_laws}
-use Rattle.tables.proofs.engine.settling.worth.Goals as goal
+use Rattle.tables.proofs.engine.following.worth.Goals as goal
 
 pub returns : goal.returns
 returns c =
