@@ -1,8 +1,8 @@
 //! An operation seen through a labelling: operands and answer are carried by labels.
 
-ghost use Rattle.std.specs.Prelude.{◌≡◌};
+ghost use Rattle.std.specs.Prelude.{◌≡◌, ◌↔◌, IsTrue};
 ghost use Rattle.mvl.specs.Operations.{turns as turns_by};
-ghost use Rattle.operations.specs.Turning.{Alone, Sets, seen};
+ghost use Rattle.operations.specs.Turning.{Alone, Labelled, Sets, seen};
 ghost use Rattle.operations.specs.Turnings.{turned_closed};
 
 use crate::operation::Operation;
@@ -53,8 +53,7 @@ impl<O: Operation, L: Labelling> Turned<O, L> {
     pub fn set(&mut self, left: u8, right: u8, answer: u8) -> Result<(), Refusal>
         ensures { Sets O.meaning L.meaning left right answer self.old result self.new }
     {
-        let labels = self.labelling.labels();
-        if left >= labels || right >= labels || answer >= labels {
+        if !self.labelled(left, right, answer) {
             return Err(Refusal::NoLabel);
         }
         if self.below.radix() != self.labelling.radix() {
@@ -66,18 +65,21 @@ impl<O: Operation, L: Labelling> Turned<O, L> {
         Ok(())
     }
 
+    // Whether all three are labels of the labelling.
+    fn labelled(&self, left: u8, right: u8, answer: u8) -> bool
+        ensures { IsTrue result ↔ Labelled (L.meaning self.now.labelling) left right answer }
+    {
+        let labels = self.labelling.labels();
+        left < labels && right < labels && answer < labels
+    }
+
     // Whether there is something to turn, and the two go together.
     fn turns(&self) -> bool
         ensures { result ≡ turns_by (O.meaning self.now.below) (L.meaning self.now.labelling) self.now.left self.now.right self.now.answer }
     {
-        if self.left == 0 && self.right == 0 && self.answer == 0 {
-            return false;
-        }
-        let labels = self.labelling.labels();
-        if self.left >= labels || self.right >= labels || self.answer >= labels {
-            return false;
-        }
-        self.labelling.radix() == self.below.radix()
+        let some = self.left != 0 || self.right != 0 || self.answer != 0;
+        some && self.labelled(self.left, self.right, self.answer)
+            && self.below.radix() == self.labelling.radix()
     }
 }
 
