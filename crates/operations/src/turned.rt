@@ -50,6 +50,7 @@ impl<O: Operation, L: Labelling> Turned<O, L> {
 
     /// Sets the three labels. Refused with 6 where one is none of the labelling's, else with 8 where the radices of the operation below
     /// and of the labelling differ.
+    #[tactic(auto, using(crate::specs::Turnings::turned_carried))]
     pub fn set(&mut self, left: u8, right: u8, answer: u8) -> Result<(), Refusal>
         ensures { Sets O.meaning L.meaning left right answer self.old result self.new }
     {
