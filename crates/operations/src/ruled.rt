@@ -1,4 +1,4 @@
-//! An operation that answers by a rule.
+//! An operation that answers by a rule, and what a rule is.
 
 ghost use Rattle.std.specs.Prelude.{◌≡◌, ℕ, ◌<◌};
 ghost use Rattle.mvl.specs.Operations.{Binary, Closed};
@@ -9,7 +9,7 @@ use mvl::radix::Radix;
 use mvl::refusal::Refusal;
 use std::marker::PhantomData;
 
-// How an operation answers at any radix.
+// How an operation answers at any radix. No other crate can call its functions.
 pub(crate) trait Rule {
     // What the operation means at a radix.
     ghost binary: { ℕ → Binary };
