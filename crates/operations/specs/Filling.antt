@@ -7,7 +7,7 @@ use Rattle.operations.specs.declared.table_operation.TableOperation.{TableOperat
 
 -- what a table operation means
 abbrev pub table_of : TableOperation → Binary
-table_of o = tabled o.radix o.bytes
+table_of o = tabled o.radix.value o.bytes
 
 -- what was made answers 0 for every pair
 abbrev pub Blank : Result TableOperation Refusal → Type 0
@@ -21,9 +21,9 @@ AllBelow p bytes = (x : ℕ) → x < length bytes → slice_index bytes x < p
 -- filled by bytes: the length is tested first, then the bytes; a refusal changes nothing
 abbrev pub Fills : TableOperation → List ℕ → Result (Unit {0}) Refusal → TableOperation → Type 0
 Fills before bytes (Ok done) after =
-    (length bytes ≡ before.radix * before.radix) × AllBelow before.radix bytes × (after.radix ≡ before.radix)
-    × ((a b : ℕ) → a < before.radix → b < before.radix → (table_of after).answer a b ≡ slice_index bytes (before.radix * a + b))
+    (length bytes ≡ before.radix.value * before.radix.value) × AllBelow before.radix.value bytes × (after.radix.value ≡ before.radix.value)
+    × ((a b : ℕ) → a < before.radix.value → b < before.radix.value → (table_of after).answer a b ≡ slice_index bytes (before.radix.value * a + b))
 Fills before bytes (Err e) after =
     (after ≡ before)
-    × ((length bytes ≢ before.radix * before.radix) → e ≡ WrongLength)
-    × (length bytes ≡ before.radix * before.radix → (AllBelow before.radix bytes → ⊥) × (e ≡ NoValue))
+    × ((length bytes ≢ before.radix.value * before.radix.value) → e ≡ WrongLength)
+    × (length bytes ≡ before.radix.value * before.radix.value → (AllBelow before.radix.value bytes → ⊥) × (e ≡ NoValue))

@@ -7,6 +7,7 @@ pub mod filling;
 pub mod maximum;
 pub mod minimum;
 pub mod operation;
+pub mod ruled;
 pub mod table_operation;
 pub mod truncated_sum;
 pub mod turned;

@@ -2,56 +2,31 @@
 
 ghost use Rattle.std.specs.Prelude.{ℕ, ◌<◌, ◌≤◌};
 ghost use Rattle.mvl.specs.Operations.{maximum as maximum_of};
-ghost use Rattle.mvl.specs.Answers.{Small, MadeFor};
 ghost use Rattle.std.proofs.Common.{rules};
 
-use crate::operation::{Operation, Shortcut};
-use mvl::refusal::Refusal;
+use crate::ruled::{Rule, Ruled};
+use mvl::radix::Radix;
 
+/// For a radix from 2 to 4.
+pub type Maximum = Ruled<Larger>;
+
+/// The rule of MAX.
 #[derive(Clone, Copy)]
-pub struct Maximum {
-    radix: u8,
-    ghost low: { 2 ≤ radix },
-    ghost high: { radix ≤ 4 },
-}
+pub struct Larger;
 
-impl Maximum {
-    /// For a radix from 2 to 4; any other is refused with 1.
-    pub fn new(radix: u8) -> Result<Maximum, Refusal>
-        ensures { MadeFor (λ o. o.radix) Small radix result }
-    {
-        if radix < 2 || radix > 4 {
-            return Err(Refusal::Unserved);
-        }
-        Ok(Maximum { radix })
-    }
-}
+impl Rule for Larger {
+    ghost binary = { maximum_of };
 
-impl Operation for Maximum {
-    ghost meaning = { λ o. maximum_of o.radix };
+    ghost radix_is = { Prim.search rules };
 
     ghost closed = { Prim.search rules };
 
-    fn radix(&self) -> u8 {
-        self.radix
+    fn answer(_radix: Radix, left: u8, right: u8) -> u8 {
+        left.max(right)
     }
 
-    fn ask(&self, left: u8, right: u8) -> Result<u8, Refusal> {
-        if left >= self.radix || right >= self.radix {
-            return Err(Refusal::NoValue);
-        }
-        Ok(left.max(right))
-    }
-}
-
-impl Shortcut for Maximum {
-    fn tell(&self, left: u8) -> Result<Option<u8>, Refusal> {
-        if left >= self.radix {
-            return Err(Refusal::NoValue);
-        }
-        if left == self.radix - 1 {
-            return Ok(Some(left));
-        }
-        Ok(None)
+    // The largest value is the larger of any two.
+    fn decided(radix: Radix, left: u8) -> Option<u8> {
+        (left == radix.get() - 1).then_some(left)
     }
 }

@@ -1,14 +1,14 @@
 //! An operation whose answers are filled in.
 
-ghost use Rattle.std.specs.Prelude.{◌≡◌, ℕ, ◌<◌, ◌≤◌, length, slice_index};
+ghost use Rattle.std.specs.Prelude.{◌≡◌, ℕ, ◌<◌, length, slice_index};
+
+use mvl::radix::Radix;
 
 /// The answer for the pair (a, b) stands at byte radix × a + b; all are 0 until they are filled.
 #[derive(Clone, Copy)]
 pub struct TableOperation {
-    pub(crate) radix: u8,
+    pub(crate) radix: Radix,
     pub(crate) bytes: [u8; 16],
-    ghost low: { 2 ≤ radix },
-    ghost high: { radix ≤ 4 },
     ghost long: { length bytes ≡ 16 },
-    ghost within: { (x : ℕ) → slice_index bytes x < radix },
+    ghost within: { (x : ℕ) → slice_index bytes x < radix.value },
 }

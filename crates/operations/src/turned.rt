@@ -1,8 +1,8 @@
 //! An operation seen through a labelling: operands and answer are carried by labels.
 
-ghost use Rattle.std.specs.Prelude.{◌≡◌};
+ghost use Rattle.std.specs.Prelude.{◌≡◌, ◌↔◌, IsTrue};
 ghost use Rattle.mvl.specs.Operations.{turns as turns_by};
-ghost use Rattle.operations.specs.Turning.{Alone, Sets, seen};
+ghost use Rattle.operations.specs.Turning.{Alone, Labelled, Sets, seen};
 ghost use Rattle.operations.specs.Turnings.{turned_closed};
 
 use crate::operation::Operation;
@@ -14,6 +14,7 @@ use mvl::refusal::Refusal;
 pub struct Turned<O, L> {
     below: O,
     labelling: L,
+    // Numbers, of which no ghost field says that they are labels: it would name what O and L mean, and specs above name this type without.
     left: u8,
     right: u8,
     answer: u8,
@@ -50,11 +51,11 @@ impl<O: Operation, L: Labelling> Turned<O, L> {
 
     /// Sets the three labels. Refused with 6 where one is none of the labelling's, else with 8 where the radices of the operation below
     /// and of the labelling differ.
+    #[tactic(auto, using(crate::specs::Turnings::turned_carried))]
     pub fn set(&mut self, left: u8, right: u8, answer: u8) -> Result<(), Refusal>
         ensures { Sets O.meaning L.meaning left right answer self.old result self.new }
     {
-        let labels = self.labelling.labels();
-        if left >= labels || right >= labels || answer >= labels {
+        if !self.labelled(left, right, answer) {
             return Err(Refusal::NoLabel);
         }
         if self.below.radix() != self.labelling.radix() {
@@ -66,18 +67,21 @@ impl<O: Operation, L: Labelling> Turned<O, L> {
         Ok(())
     }
 
+    // Whether all three are labels of the labelling.
+    fn labelled(&self, left: u8, right: u8, answer: u8) -> bool
+        ensures { IsTrue result ↔ Labelled (L.meaning self.now.labelling) left right answer }
+    {
+        let labels = self.labelling.labels();
+        left < labels && right < labels && answer < labels
+    }
+
     // Whether there is something to turn, and the two go together.
     fn turns(&self) -> bool
         ensures { result ≡ turns_by (O.meaning self.now.below) (L.meaning self.now.labelling) self.now.left self.now.right self.now.answer }
     {
-        if self.left == 0 && self.right == 0 && self.answer == 0 {
-            return false;
-        }
-        let labels = self.labelling.labels();
-        if self.left >= labels || self.right >= labels || self.answer >= labels {
-            return false;
-        }
-        self.labelling.radix() == self.below.radix()
+        let some = self.left != 0 || self.right != 0 || self.answer != 0;
+        some && self.labelled(self.left, self.right, self.answer)
+            && self.below.radix() == self.labelling.radix()
     }
 }
 

@@ -18,10 +18,10 @@ labelling_meaning (Complement l) = complement l.radix
 labelling_meaning (Cyclic l) = cyclic l.radix
 
 abbrev pub operation_meaning : AnyOperation → Binary
-operation_meaning (Minimum o) = minimum o.radix
-operation_meaning (Maximum o) = maximum o.radix
-operation_meaning (CyclicSum o) = cyclic_sum o.radix
-operation_meaning (TruncatedSum o) = truncated_sum o.radix
+operation_meaning (Minimum o) = minimum o.radix.value
+operation_meaning (Maximum o) = maximum o.radix.value
+operation_meaning (CyclicSum o) = cyclic_sum o.radix.value
+operation_meaning (TruncatedSum o) = truncated_sum o.radix.value
 operation_meaning (Table o) = table_of o
 
 -- an operation seen through a labelling
