@@ -57,12 +57,16 @@ enum Fault {
 
 fn asked_for(rt: &HostRuntime) -> Result<Request, Fault> {
     let mut args = env::args(rt)?.skip(1);
-    match (args.next(), args.next()) {
-        (None, _) => Ok(Request::Play(Source::Input)),
-        (Some(first), None) if first.as_str() == "--help" => Ok(Request::Help),
-        (Some(first), None) => Ok(Request::Play(Source::File(first))),
-        (Some(_), Some(_)) => Err(Fault::TooManyArguments),
+    let Some(first) = args.next() else {
+        return Ok(Request::Play(Source::Input));
+    };
+    if args.next().is_some() {
+        return Err(Fault::TooManyArguments);
     }
+    if first.as_str() == "--help" {
+        return Ok(Request::Help);
+    }
+    Ok(Request::Play(Source::File(first)))
 }
 
 fn play(rt: &HostRuntime, script: Source) -> Result<(), Fault> {

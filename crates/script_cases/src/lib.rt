@@ -6,6 +6,7 @@
 mod tests {
     use scripts::playing::run;
     use std::alloc::{AllocError, Global};
+    use std::process::Abort;
     use std::test::Fail;
 
     // The listing of a script, or why it failed.
@@ -23,9 +24,9 @@ mod tests {
     }
 
     // Each script is listed, or fails, as the text beside it says.
-    fn play_all(rt: &HostRuntime, cases: &[(&str, &str)]) -> Result<(), Fail> {
+    fn play_all(rt: &impl Abort, heap: Global, cases: &[(&str, &str)]) -> Result<(), Fail> {
         for (script, expected) in cases {
-            let said = listing(rt.alloc(), script)?;
+            let said = listing(heap, script)?;
             assert!(rt; said.as_str() == *expected, "{}", script);
         }
         Ok(())
@@ -120,7 +121,7 @@ mod tests {
 
     #[test]
     fn senseless_scripts(rt: HostRuntime) -> Result<(), Fail> {
-        play_all(&rt, &SENSELESS)
+        play_all(&rt, rt.alloc(), &SENSELESS)
     }
 
     const GOOD: [(&str, &str); 6] = [
@@ -143,7 +144,7 @@ mod tests {
 
     #[test]
     fn good_scripts(rt: HostRuntime) -> Result<(), Fail> {
-        play_all(&rt, &GOOD)
+        play_all(&rt, rt.alloc(), &GOOD)
     }
 
     const REFUSED: [(&str, &str); 4] = [
@@ -168,6 +169,6 @@ mod tests {
     // A refusal is listed, and changes nothing.
     #[test]
     fn refusals_are_listed(rt: HostRuntime) -> Result<(), Fail> {
-        play_all(&rt, &REFUSED)
+        play_all(&rt, rt.alloc(), &REFUSED)
     }
 }
