@@ -7,6 +7,7 @@ use std::error::Error;
 use std::fmt;
 use std::str::FromStr;
 
+/// A kind of labellings.
 #[derive(Clone, Copy, Debug, PartialEq, Eq)]
 pub enum LabellingKind {
     Plain,
@@ -14,6 +15,7 @@ pub enum LabellingKind {
     Cyclic,
 }
 
+/// A kind of operations.
 #[derive(Clone, Copy, Debug, PartialEq, Eq)]
 pub enum OperationKind {
     Minimum,

@@ -3,7 +3,7 @@
 use crate::any_labelling::AnyLabelling;
 use crate::chosen::Chosen;
 
-/// At first, by default, nothing is chosen.
+/// The labelling and the operation at hand; by default nothing is chosen.
 #[derive(Clone, Copy, Default)]
 pub struct Session {
     pub(crate) labelling: Option<AnyLabelling>,
