@@ -81,14 +81,10 @@ fn done(command: &Command) -> &'static str {
 /// The words of the line and the answer, as `ask 1 2: 3`; of `say` the text alone.
 impl fmt::Display for Entry {
     fn fmt<W: fmt::Write>(&self, f: &mut fmt::Formatter<W>) -> fmt::Result {
-        let command = &self.command;
-        let reply = &self.reply;
+        let Entry { command, reply, .. } = self;
         match (command, reply) {
             (Command::Say(text), _) => write!(f, "{text}"),
-            (_, Reply::Done(Ok(_))) => {
-                let done = done(command);
-                write!(f, "{command}: {done}")
-            }
+            (_, Reply::Done(Ok(_))) => write!(f, "{command}: {}", done(command)),
             _ => write!(f, "{command}:{reply}"),
         }
     }
