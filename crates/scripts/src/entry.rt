@@ -1,6 +1,7 @@
 //! What a played script leaves: an entry for each line done, or why it stopped.
 
 ghost use Rattle.std.specs.Prelude.{◌≡◌};
+ghost use Rattle.scripts.specs.declared.entry.Unread.TheVariants as unread;
 ghost use Rattle.scripts.specs.declared.entry.Fault.TheVariants as fault;
 
 use crate::command::Command;
@@ -37,12 +38,16 @@ pub enum Unread {
 }
 
 impl From<AllocError> for Unread {
+    ghost from_gives = { λ _ u. u ≡ unread.NoMemory };
+
     fn from(_e: AllocError) -> Unread {
         Unread::NoMemory
     }
 }
 
 impl<T: Drop> From<AllocFailed<T>> for Unread {
+    ghost from_gives = { λ _ u. u ≡ unread.NoMemory };
+
     fn from(_e: AllocFailed<T>) -> Unread {
         Unread::NoMemory
     }
@@ -58,7 +63,7 @@ pub enum Fault {
 }
 
 impl From<Unread> for Fault {
-    ghost from_gives = { λ unread f. f ≡ fault.Unread unread };
+    ghost from_gives = { λ u f. f ≡ fault.Unread u };
 
     fn from(unread: Unread) -> Fault {
         Fault::Unread(unread)
