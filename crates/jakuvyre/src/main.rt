@@ -2,87 +2,98 @@
 
 #![tactic(auto)]
 
-use anyhow::anyhow;
+use scripts::entry::Failure;
 use scripts::playing::run;
 use scripts::usage::USAGE;
 use std::process::ExitCode;
-use std::{env, fs, io};
+use std::{env, fmt, fs, io};
+use thiserror::Error;
+
+// Where a script is read.
+#[derive(Debug, Drop)]
+enum Source {
+    File(String),
+    Input,
+}
+
+impl Source {
+    fn read(&self, rt: &HostRuntime) -> io::Result<String> {
+        match self {
+            Source::File(name) => fs::read_to_string(rt, name.as_str()),
+            Source::Input => io::read_to_string(rt.alloc(), rt.stdin()),
+        }
+    }
+}
+
+impl fmt::Display for Source {
+    fn fmt<W: fmt::Write>(&self, f: &mut fmt::Formatter<W>) -> fmt::Result {
+        match self {
+            Source::File(name) => f.write_str(name.as_str()),
+            Source::Input => f.write_str("standard input"),
+        }
+    }
+}
 
 // What the program is asked to do.
 #[derive(Drop)]
 enum Request {
     Help,
-    Play(String),
-    PlayInput,
-    Nonsense,
+    Play(Source),
 }
 
-fn asked_for(rt: &HostRuntime) -> io::Result<Request> {
-    let mut args = env::args(rt)?;
-    let _ = args.next();
+// Why it is not done.
+#[derive(Debug, Drop, Error)]
+enum Fault {
+    #[error("expected one script file (jakuvyre --help says more)")]
+    TooManyArguments,
+    #[error("cannot read {script}: {error}")]
+    Unreadable { script: Source, error: io::Error },
+    #[error(transparent)]
+    Script(#[from] Failure),
+    // The arguments cannot be had, or the output cannot be written.
+    #[error(transparent)]
+    Host(#[from] io::Error),
+}
+
+fn asked_for(rt: &HostRuntime) -> Result<Request, Fault> {
+    let mut args = env::args(rt)?.skip(1);
     let Some(first) = args.next() else {
-        return Ok(Request::PlayInput);
+        return Ok(Request::Play(Source::Input));
     };
     if args.next().is_some() {
-        return Ok(Request::Nonsense);
+        return Err(Fault::TooManyArguments);
     }
     if first.as_str() == "--help" {
         return Ok(Request::Help);
     }
-    Ok(Request::Play(first))
+    Ok(Request::Play(Source::File(first)))
 }
 
-fn play(rt: &HostRuntime, text: &str) -> anyhow::Result<()> {
-    match run(rt.alloc(), text) {
-        Ok(entries) => {
-            for entry in entries.iter() {
-                println!(rt; "{entry}")?;
-            }
-            Ok(())
-        }
-        Err(failure) => {
-            eprintln!(rt; "jakuvyre: {failure}")?;
-            Err(anyhow!("the script failed"))
-        }
+fn play(rt: &HostRuntime, script: Source) -> Result<(), Fault> {
+    let text = script
+        .read(rt)
+        .map_err(|error| Fault::Unreadable { script, error })?;
+    for entry in run(rt.alloc(), text.as_str())?.iter() {
+        println!(rt; "{entry}")?;
     }
+    Ok(())
 }
 
-fn play_file(rt: &HostRuntime, name: &str) -> anyhow::Result<()> {
-    match fs::read_to_string(rt, name) {
-        Ok(text) => play(rt, text.as_str()),
-        Err(error) => {
-            eprintln!(rt; "jakuvyre: cannot read {name}: {error}")?;
-            Err(anyhow!("no script"))
-        }
-    }
-}
-
-fn play_input(rt: &HostRuntime) -> anyhow::Result<()> {
-    match io::read_to_string(rt.alloc(), rt.stdin()) {
-        Ok(text) => play(rt, text.as_str()),
-        Err(error) => {
-            eprintln!(rt; "jakuvyre: cannot read standard input: {error}")?;
-            Err(anyhow!("no script"))
-        }
-    }
-}
-
-fn fulfil(rt: &HostRuntime) -> anyhow::Result<()> {
+fn fulfil(rt: &HostRuntime) -> Result<(), Fault> {
     match asked_for(rt)? {
         Request::Help => Ok(print!(rt; "{USAGE}")?),
-        Request::Play(name) => play_file(rt, name.as_str()),
-        Request::PlayInput => play_input(rt),
-        Request::Nonsense => {
-            eprintln!(rt; "jakuvyre: expected one script file (jakuvyre --help says more)")?;
-            Err(anyhow!("too many arguments"))
-        }
+        Request::Play(script) => play(rt, script),
     }
 }
 
-// Only the status: what a user can mend was told where it was found.
 fn main(rt: HostRuntime) -> ExitCode {
     match fulfil(&rt) {
         Ok(()) => ExitCode::SUCCESS,
-        Err(_) => ExitCode::FAILURE,
+        // There is nothing that a user could mend.
+        Err(Fault::Host(_)) => ExitCode::FAILURE,
+        Err(fault) => {
+            let _ = eprintln!(rt; "jakuvyre: {fault}");
+            ExitCode::FAILURE
+        }
     }
 }

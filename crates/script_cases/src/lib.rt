@@ -6,6 +6,7 @@
 mod tests {
     use scripts::playing::run;
     use std::alloc::{AllocError, Global};
+    use std::process::Abort;
     use std::test::Fail;
 
     // The listing of a script, or why it failed.
@@ -14,13 +15,21 @@ mod tests {
             Ok(entries) => {
                 let mut all = String::new(heap);
                 for entry in entries.iter() {
-                    let line = format!(in heap; "{entry}\n")?;
-                    all.push_str(line.as_str())?;
+                    writeln!(all, "{entry}")?;
                 }
                 Ok(all)
             }
             Err(failure) => format!(in heap; "{failure}"),
         }
+    }
+
+    // Each script is listed, or fails, as the text beside it says.
+    fn play_all(rt: &impl Abort, heap: Global, cases: &[(&str, &str)]) -> Result<(), Fail> {
+        for (script, expected) in cases {
+            let said = listing(heap, script)?;
+            assert!(rt; said.as_str() == *expected, "{}", script);
+        }
+        Ok(())
     }
 
     const SENSELESS: [(&str, &str); 21] = [
@@ -112,11 +121,7 @@ mod tests {
 
     #[test]
     fn senseless_scripts(rt: HostRuntime) -> Result<(), Fail> {
-        for (script, expected) in SENSELESS {
-            let said = listing(rt.alloc(), script)?;
-            assert!(rt; said.as_str() == expected, "{}", script);
-        }
-        Ok(())
+        play_all(&rt, rt.alloc(), &SENSELESS)
     }
 
     const GOOD: [(&str, &str); 6] = [
@@ -139,11 +144,7 @@ mod tests {
 
     #[test]
     fn good_scripts(rt: HostRuntime) -> Result<(), Fail> {
-        for (script, expected) in GOOD {
-            let said = listing(rt.alloc(), script)?;
-            assert!(rt; said.as_str() == expected, "{}", script);
-        }
-        Ok(())
+        play_all(&rt, rt.alloc(), &GOOD)
     }
 
     const REFUSED: [(&str, &str); 4] = [
@@ -168,10 +169,6 @@ mod tests {
     // A refusal is listed, and changes nothing.
     #[test]
     fn refusals_are_listed(rt: HostRuntime) -> Result<(), Fail> {
-        for (script, expected) in REFUSED {
-            let said = listing(rt.alloc(), script)?;
-            assert!(rt; said.as_str() == expected, "{}", script);
-        }
-        Ok(())
+        play_all(&rt, rt.alloc(), &REFUSED)
     }
 }

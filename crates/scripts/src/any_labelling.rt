@@ -31,6 +31,7 @@ impl AnyLabelling {
     }
 }
 
+// Each method is passed on by hand: a labelling is kept by value, and what hands out a `dyn` value is refused.
 impl Labelling for AnyLabelling {
     ghost meaning = { labelling_meaning };
 

@@ -52,6 +52,7 @@ impl AnyOperation {
     }
 }
 
+// Each method is passed on by hand: an operation is kept by value, and what hands out a `dyn` value is refused.
 impl Operation for AnyOperation {
     ghost meaning = { operation_meaning };
 

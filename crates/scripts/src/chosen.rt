@@ -52,6 +52,7 @@ impl Chosen {
     }
 }
 
+// Passed on by hand, as by `AnyOperation`.
 impl Operation for Chosen {
     ghost meaning = { chosen_meaning };
 

@@ -2,6 +2,7 @@
 
 use crate::kinds::{LabellingKind, OperationKind};
 
+/// What a line of a script asks for, in its own numbers.
 #[derive(Drop)]
 pub enum Command {
     /// Choose a labelling of a kind and a radix.

@@ -1,7 +1,8 @@
 //! What a played script leaves: an entry for each line done, or why it stopped.
 
 ghost use Rattle.std.specs.Prelude.{◌≡◌};
-ghost use Rattle.scripts.specs.declared.entry.Failure.TheVariants.{NoMemory};
+ghost use Rattle.scripts.specs.declared.entry.Unread.TheVariants as unread;
+ghost use Rattle.scripts.specs.declared.entry.Fault.TheVariants as fault;
 
 use crate::command::Command;
 use crate::reply::{Missing, Reply};
@@ -26,7 +27,7 @@ pub enum Expected {
 }
 
 /// Why a line cannot be read.
-#[derive(Drop)]
+#[derive(Debug, Drop)]
 pub enum Unread {
     /// `found` is the word that stands there, none at the end of the line.
     Senseless {
@@ -37,38 +38,57 @@ pub enum Unread {
 }
 
 impl From<AllocError> for Unread {
+    ghost from_gives = { λ _ u. u ≡ unread.NoMemory };
+
     fn from(_e: AllocError) -> Unread {
         Unread::NoMemory
     }
 }
 
 impl<T: Drop> From<AllocFailed<T>> for Unread {
+    ghost from_gives = { λ _ u. u ≡ unread.NoMemory };
+
     fn from(_e: AllocFailed<T>) -> Unread {
         Unread::NoMemory
     }
 }
 
-/// Why a script is not played to its end.
-#[derive(Drop)]
-pub enum Failure {
-    /// A line makes no sense.
-    Senseless {
-        line: usize,
-        expected: Expected,
-        found: Option<String>,
-    },
-    /// A line needs what is not at hand.
-    Lacking {
-        line: usize,
-        missing: Missing,
-    },
+/// Why a line is not done.
+#[derive(Debug, Drop)]
+pub enum Fault {
+    Unread(Unread),
+    /// The line needs what is not at hand.
+    Lacking(Missing),
     NoMemory,
 }
 
-impl<T: Drop> From<AllocFailed<T>> for Failure {
-    ghost from_gives = { λ _ r. r ≡ NoMemory };
+impl From<Unread> for Fault {
+    ghost from_gives = { λ u f. f ≡ fault.Unread u };
 
-    fn from(_e: AllocFailed<T>) -> Failure {
-        Failure::NoMemory
+    fn from(unread: Unread) -> Fault {
+        Fault::Unread(unread)
     }
+}
+
+impl From<Missing> for Fault {
+    ghost from_gives = { λ missing f. f ≡ fault.Lacking missing };
+
+    fn from(missing: Missing) -> Fault {
+        Fault::Lacking(missing)
+    }
+}
+
+impl<T: Drop> From<AllocFailed<T>> for Fault {
+    ghost from_gives = { λ _ f. f ≡ fault.NoMemory };
+
+    fn from(_e: AllocFailed<T>) -> Fault {
+        Fault::NoMemory
+    }
+}
+
+/// Why a script is not played to its end, and the line where it stops.
+#[derive(Debug, Drop)]
+pub struct Failure {
+    pub line: usize,
+    pub fault: Fault,
 }

@@ -1,7 +1,13 @@
 //! The kinds of labellings and operations that a script may choose, with their words.
 
-use std::fmt;
+ghost use Rattle.std.specs.Prelude.{◌≡◌, Some};
+ghost use Rattle.scripts.specs.Words.{labelling_word, operation_word, Names};
 
+use std::error::Error;
+use std::fmt;
+use std::str::FromStr;
+
+/// A kind of labellings.
 #[derive(Clone, Copy, Debug, PartialEq, Eq)]
 pub enum LabellingKind {
     Plain,
@@ -9,6 +15,7 @@ pub enum LabellingKind {
     Cyclic,
 }
 
+/// A kind of operations.
 #[derive(Clone, Copy, Debug, PartialEq, Eq)]
 pub enum OperationKind {
     Minimum,
@@ -18,18 +25,14 @@ pub enum OperationKind {
     Table,
 }
 
-impl LabellingKind {
-    // The kind that a word names.
-    pub(crate) fn named(word: &str) -> Option<LabellingKind> {
-        match word {
-            "plain" => Some(LabellingKind::Plain),
-            "complement" => Some(LabellingKind::Complement),
-            "cyclic" => Some(LabellingKind::Cyclic),
-            _ => None,
-        }
-    }
+/// No kind has the word.
+#[derive(Clone, Copy, Debug, PartialEq, Eq)]
+pub struct UnknownKind;
 
-    fn word(&self) -> &'static str {
+impl LabellingKind {
+    fn word(&self) -> &'static str
+        ensures { result.now ≡ labelling_word self.now }
+    {
         match self {
             LabellingKind::Plain => "plain",
             LabellingKind::Complement => "complement",
@@ -39,19 +42,9 @@ impl LabellingKind {
 }
 
 impl OperationKind {
-    // The kind that a word names.
-    pub(crate) fn named(word: &str) -> Option<OperationKind> {
-        match word {
-            "min" => Some(OperationKind::Minimum),
-            "max" => Some(OperationKind::Maximum),
-            "cyclic-sum" => Some(OperationKind::CyclicSum),
-            "truncated-sum" => Some(OperationKind::TruncatedSum),
-            "table" => Some(OperationKind::Table),
-            _ => None,
-        }
-    }
-
-    fn word(&self) -> &'static str {
+    fn word(&self) -> &'static str
+        ensures { result.now ≡ operation_word self.now }
+    {
         match self {
             OperationKind::Minimum => "min",
             OperationKind::Maximum => "max",
@@ -62,14 +55,60 @@ impl OperationKind {
     }
 }
 
+/// The kind that has the word.
+impl FromStr for LabellingKind {
+    type Err = UnknownKind;
+
+    ghost from_str_gives = { Names labelling_word };
+
+    fn from_str(word: &str) -> Result<LabellingKind, UnknownKind> {
+        match word {
+            "plain" => Ok(LabellingKind::Plain),
+            "complement" => Ok(LabellingKind::Complement),
+            "cyclic" => Ok(LabellingKind::Cyclic),
+            _ => Err(UnknownKind),
+        }
+    }
+}
+
+/// The kind that has the word.
+impl FromStr for OperationKind {
+    type Err = UnknownKind;
+
+    ghost from_str_gives = { Names operation_word };
+
+    fn from_str(word: &str) -> Result<OperationKind, UnknownKind> {
+        match word {
+            "min" => Ok(OperationKind::Minimum),
+            "max" => Ok(OperationKind::Maximum),
+            "cyclic-sum" => Ok(OperationKind::CyclicSum),
+            "truncated-sum" => Ok(OperationKind::TruncatedSum),
+            "table" => Ok(OperationKind::Table),
+            _ => Err(UnknownKind),
+        }
+    }
+}
+
 impl fmt::Display for LabellingKind {
+    ghost output = { λ kind. Some (labelling_word kind) };
+
     fn fmt<W: fmt::Write>(&self, f: &mut fmt::Formatter<W>) -> fmt::Result {
         f.write_str(self.word())
     }
 }
 
 impl fmt::Display for OperationKind {
+    ghost output = { λ kind. Some (operation_word kind) };
+
     fn fmt<W: fmt::Write>(&self, f: &mut fmt::Formatter<W>) -> fmt::Result {
         f.write_str(self.word())
     }
 }
+
+impl fmt::Display for UnknownKind {
+    fn fmt<W: fmt::Write>(&self, f: &mut fmt::Formatter<W>) -> fmt::Result {
+        f.write_str("no kind has this word")
+    }
+}
+
+impl Error for UnknownKind {}

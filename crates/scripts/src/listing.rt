@@ -1,9 +1,10 @@
 //! Entries and failures in print.
 
 use crate::command::Command;
-use crate::entry::{Entry, Expected, Failure};
+use crate::entry::{Entry, Expected, Failure, Fault, Unread};
 use crate::grid::Grid;
 use crate::reply::{Missing, Reply};
+use std::error::Error;
 use std::fmt;
 
 /// The words of the command.
@@ -58,9 +59,9 @@ impl fmt::Display for Reply {
             Reply::Answer(Ok(answer)) => write!(f, " {answer}"),
             Reply::Told(Ok(Some(value))) => write!(f, " {value}"),
             Reply::Told(Ok(None)) => f.write_str(" none"),
-            Reply::Done(Err(refusal)) => write!(f, " refused: {refusal}"),
-            Reply::Answer(Err(refusal)) => write!(f, " refused: {refusal}"),
-            Reply::Told(Err(refusal)) => write!(f, " refused: {refusal}"),
+            Reply::Done(Err(refusal)) | Reply::Answer(Err(refusal)) | Reply::Told(Err(refusal)) => {
+                write!(f, " refused: {refusal}")
+            }
             Reply::Shown(grid) => write!(f, "\n{grid}"),
             Reply::Said => Ok(()),
         }
@@ -70,8 +71,7 @@ impl fmt::Display for Reply {
 // What a command did that was granted.
 fn done(command: &Command) -> &'static str {
     match command {
-        Command::ChooseLabelling(_, _) => "chosen",
-        Command::ChooseOperation(_, _) => "chosen",
+        Command::ChooseLabelling(_, _) | Command::ChooseOperation(_, _) => "chosen",
         Command::Fill(_) => "filled",
         Command::Turn(_, _, _) => "turned",
         _ => "done",
@@ -81,14 +81,10 @@ fn done(command: &Command) -> &'static str {
 /// The words of the line and the answer, as `ask 1 2: 3`; of `say` the text alone.
 impl fmt::Display for Entry {
     fn fmt<W: fmt::Write>(&self, f: &mut fmt::Formatter<W>) -> fmt::Result {
-        let command = &self.command;
-        let reply = &self.reply;
+        let Entry { command, reply, .. } = self;
         match (command, reply) {
             (Command::Say(text), _) => write!(f, "{text}"),
-            (_, Reply::Done(Ok(_))) => {
-                let done = done(command);
-                write!(f, "{command}: {done}")
-            }
+            (_, Reply::Done(Ok(_))) => write!(f, "{command}: {}", done(command)),
             _ => write!(f, "{command}:{reply}"),
         }
     }
@@ -117,25 +113,46 @@ impl fmt::Display for Missing {
     }
 }
 
-/// `line 7: expected a number from 0 to 255, found 'x'`.
-impl fmt::Display for Failure {
+/// `expected a number from 0 to 255, found 'x'`.
+impl fmt::Display for Unread {
     fn fmt<W: fmt::Write>(&self, f: &mut fmt::Formatter<W>) -> fmt::Result {
         match self {
-            Failure::Senseless {
-                line,
+            Unread::Senseless {
                 expected,
                 found: Some(word),
-            } => write!(f, "line {line}: expected {expected}, found '{word}'"),
-            Failure::Senseless {
-                line,
+            } => write!(f, "expected {expected}, found '{word}'"),
+            Unread::Senseless {
                 expected,
                 found: None,
-            } => write!(
-                f,
-                "line {line}: expected {expected}, found the end of the line"
-            ),
-            Failure::Lacking { line, missing } => write!(f, "line {line}: expected {missing}"),
-            Failure::NoMemory => f.write_str("there is not enough memory"),
+            } => write!(f, "expected {expected}, found the end of the line"),
+            Unread::NoMemory => f.write_str("there is not enough memory"),
         }
     }
 }
+
+impl fmt::Display for Fault {
+    fn fmt<W: fmt::Write>(&self, f: &mut fmt::Formatter<W>) -> fmt::Result {
+        match self {
+            Fault::Unread(unread) => write!(f, "{unread}"),
+            Fault::Lacking(missing) => write!(f, "expected {missing}"),
+            Fault::NoMemory => write!(f, "{}", Unread::NoMemory),
+        }
+    }
+}
+
+/// `line 7: expected a number from 0 to 255, found 'x'`; no line is at fault where memory is short.
+impl fmt::Display for Failure {
+    fn fmt<W: fmt::Write>(&self, f: &mut fmt::Formatter<W>) -> fmt::Result {
+        let Failure { line, fault } = self;
+        match fault {
+            Fault::Unread(Unread::NoMemory) | Fault::NoMemory => write!(f, "{fault}"),
+            _ => write!(f, "line {line}: {fault}"),
+        }
+    }
+}
+
+impl Error for Unread {}
+
+impl Error for Fault {}
+
+impl Error for Failure {}

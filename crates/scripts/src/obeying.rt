@@ -2,7 +2,7 @@
 
 ghost use Rattle.std.specs.Prelude.{◌≡◌, None};
 ghost use Rattle.scripts.specs.Needed.{labelling_at, operation_at, alone_at, table_at};
-ghost use Rattle.scripts.specs.Obeys.{nothing_chosen, ChoosesLabelling, ChoosesOperation, FillsAt, TurnsAt, Obeys};
+ghost use Rattle.scripts.specs.Obeys.{ChoosesLabelling, ChoosesOperation, FillsAt, TurnsAt, Obeys};
 
 use crate::any_labelling::AnyLabelling;
 use crate::any_operation::AnyOperation;
@@ -19,52 +19,30 @@ use operations::table_operation::TableOperation;
 use operations::turned::Turned;
 
 impl Session {
-    // Nothing is chosen yet.
-    pub(crate) fn new() -> Session
-        ensures { result ≡ nothing_chosen }
-    {
-        Session {
-            labelling: None,
-            operation: None,
-        }
-    }
-
     fn labelling(&self) -> Result<AnyLabelling, Missing>
         ensures { result ≡ labelling_at self.now.labelling }
     {
-        match self.labelling {
-            Some(labelling) => Ok(labelling),
-            None => Err(Missing::Labelling),
-        }
+        self.labelling.ok_or(Missing::Labelling)
     }
 
     fn operation(&self) -> Result<Chosen, Missing>
         ensures { result ≡ operation_at self.now.operation }
     {
-        match self.operation {
-            Some(operation) => Ok(operation),
-            None => Err(Missing::Operation),
-        }
+        self.operation.ok_or(Missing::Operation)
     }
 
     // The operation at hand, where it is not turned.
     fn alone(&self) -> Result<AnyOperation, Missing>
         ensures { result ≡ alone_at self.now.operation }
     {
-        match self.operation {
-            Some(operation) => operation.alone(),
-            None => Err(Missing::Operation),
-        }
+        self.operation()?.alone()
     }
 
     // The operation at hand, where it is a table operation that is not turned.
     fn table(&self) -> Result<TableOperation, Missing>
         ensures { result ≡ table_at self.now.operation }
     {
-        match self.operation {
-            Some(operation) => operation.table(),
-            None => Err(Missing::Operation),
-        }
+        self.operation()?.table()
     }
 
     fn choose_labelling(&mut self, kind: LabellingKind, radix: u8) -> Result<(), Refusal>

@@ -2,7 +2,7 @@
 
 ghost use Rattle.scripts.specs.Plays.{Steps, Advances, Runs};
 
-use crate::entry::{Entry, Failure, Unread};
+use crate::entry::{Entry, Failure, Fault};
 use crate::reading::read;
 use crate::session::Session;
 use std::alloc::Global;
@@ -13,27 +13,18 @@ fn step(
     session: &mut Session,
     line: usize,
     text: &str,
-) -> Result<Option<Entry>, Failure>
+) -> Result<Option<Entry>, Fault>
     ensures { Steps session.old line result session.new }
 {
-    let command = match read(heap, text) {
-        Ok(Some(command)) => command,
-        Ok(None) => return Ok(None),
-        Err(Unread::Senseless { expected, found }) => return Err(Failure::Senseless {
-            line,
-            expected,
-            found,
-        }),
-        Err(Unread::NoMemory) => return Err(Failure::NoMemory),
+    let Some(command) = read(heap, text)? else {
+        return Ok(None);
     };
-    match session.obey(&command) {
-        Ok(reply) => Ok(Some(Entry {
-            line,
-            command,
-            reply,
-        })),
-        Err(missing) => Err(Failure::Lacking { line, missing }),
-    }
+    let reply = session.obey(&command)?;
+    Ok(Some(Entry {
+        line,
+        command,
+        reply,
+    }))
 }
 
 // Does what a line says, and adds its entry, if it has one, to those of the lines before.
@@ -43,16 +34,14 @@ fn advance(
     entries: &mut Vec<Entry>,
     line: usize,
     text: &str,
-) -> Result<(), Failure>
+) -> Result<(), Fault>
     ensures { Advances line session.old entries.old.items result session.new entries.new.items }
 {
-    match step(heap, session, line, text)? {
-        Some(entry) => {
-            entries.push(entry)?;
-            Ok(())
-        }
-        None => Ok(()),
-    }
+    let Some(entry) = step(heap, session, line, text)? else {
+        return Ok(());
+    };
+    entries.push(entry)?;
+    Ok(())
 }
 
 /// Plays a script from its first line on, with nothing chosen: an entry for each line that is done. A line that makes no sense, or lacks
@@ -60,10 +49,14 @@ fn advance(
 pub fn run(heap: Global, text: &str) -> Result<Vec<Entry>, Failure>
     ensures { Runs result }
 {
-    let mut session = Session::new();
+    let mut session = Session::default();
     let mut entries = Vec::new(heap);
-    for (i, line) in text.lines().enumerate() {
-        advance(heap, &mut session, &mut entries, i + 1, line)?;
+    for (i, text) in text.lines().enumerate() {
+        let line = i + 1;
+        advance(heap, &mut session, &mut entries, line, text).map_err(|fault| Failure {
+            line,
+            fault,
+        })?;
     }
     Ok(entries)
 }

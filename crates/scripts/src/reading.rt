@@ -2,9 +2,8 @@
 
 use crate::command::Command;
 use crate::entry::{Expected, Unread};
-use crate::kinds::{LabellingKind, OperationKind};
 use std::alloc::Global;
-use std::str::SplitWhitespace;
+use std::str::{FromStr, SplitWhitespace};
 
 // The words of a line that are not read yet.
 #[derive(Drop)]
@@ -13,63 +12,43 @@ struct Words<'a> {
     rest: SplitWhitespace<'a>,
 }
 
+// What is told of a word, or of the end of the line, where something else was expected.
 fn senseless(heap: Global, expected: Expected, found: Option<&str>) -> Unread {
-    let Some(word) = found else {
-        return Unread::Senseless {
-            expected,
-            found: None,
-        };
-    };
-    match String::from_str(heap, word) {
-        Ok(word) => Unread::Senseless {
-            expected,
-            found: Some(word),
-        },
+    match found.map(|word| String::from_str(heap, word)).transpose() {
+        Ok(found) => Unread::Senseless { expected, found },
         Err(_) => Unread::NoMemory,
     }
 }
 
-fn number_of(heap: Global, word: Option<&str>) -> Result<u8, Unread> {
-    if let Some(digits) = word {
-        if let Ok(number) = digits.parse::<u8>() {
-            return Ok(number);
-        }
-    }
-    Err(senseless(heap, Expected::Number, word))
+// What a word spells.
+fn spelled<T: FromStr>(heap: Global, expected: Expected, word: Option<&str>) -> Result<T, Unread>
+where
+    T::Err: Drop,
+{
+    word.and_then(|word| word.parse::<T>().ok())
+        .ok_or_else(|| senseless(heap, expected, word))
 }
 
 impl Words<'_> {
+    // What the next word spells.
+    fn next<T: FromStr>(&mut self, expected: Expected) -> Result<T, Unread>
+    where
+        T::Err: Drop,
+    {
+        spelled(self.heap, expected, self.rest.next())
+    }
+
     fn number(&mut self) -> Result<u8, Unread> {
-        number_of(self.heap, self.rest.next())
+        self.next(Expected::Number)
     }
 
     // The numbers up to the end of the line.
     fn numbers(&mut self) -> Result<Vec<u8>, Unread> {
         let mut all = Vec::new(self.heap);
-        while let Some(word) = self.rest.next() {
-            all.push(number_of(self.heap, Some(word))?)?;
+        for word in self.rest.by_ref() {
+            all.push(spelled(self.heap, Expected::Number, Some(word))?)?;
         }
         Ok(all)
-    }
-
-    fn labelling_kind(&mut self) -> Result<LabellingKind, Unread> {
-        let word = self.rest.next();
-        if let Some(name) = word {
-            if let Some(kind) = LabellingKind::named(name) {
-                return Ok(kind);
-            }
-        }
-        Err(senseless(self.heap, Expected::LabellingKind, word))
-    }
-
-    fn operation_kind(&mut self) -> Result<OperationKind, Unread> {
-        let word = self.rest.next();
-        if let Some(name) = word {
-            if let Some(kind) = OperationKind::named(name) {
-                return Ok(kind);
-            }
-        }
-        Err(senseless(self.heap, Expected::OperationKind, word))
     }
 
     fn end(&mut self) -> Result<(), Unread> {
@@ -82,8 +61,14 @@ impl Words<'_> {
     // The command that `name` begins.
     fn command(&mut self, name: &str) -> Result<Command, Unread> {
         let command = match name {
-            "labelling" => Command::ChooseLabelling(self.labelling_kind()?, self.number()?),
-            "operation" => Command::ChooseOperation(self.operation_kind()?, self.number()?),
+            "labelling" => Command::ChooseLabelling(
+                self.next(Expected::LabellingKind)?,
+                self.number()?,
+            ),
+            "operation" => Command::ChooseOperation(
+                self.next(Expected::OperationKind)?,
+                self.number()?,
+            ),
             "fill" => Command::Fill(self.numbers()?),
             "turn" => Command::Turn(self.number()?, self.number()?, self.number()?),
             "ask" => Command::Ask(self.number()?, self.number()?),
@@ -103,13 +88,11 @@ impl Words<'_> {
 
 // The text of a `say` line.
 fn said(line: &str) -> Option<&str> {
-    if line == "say" {
-        return Some("");
-    }
-    if let Some(text) = line.strip_prefix("say\t") {
+    let text = line.strip_prefix("say")?;
+    if text.is_empty() {
         return Some(text);
     }
-    line.strip_prefix("say ")
+    text.strip_prefix([' ', '\t'])
 }
 
 // The command of a line; none for a blank line or a comment.
@@ -125,8 +108,9 @@ pub(crate) fn read(heap: Global, line: &str) -> Result<Option<Command>, Unread> 
         heap,
         rest: line.split_whitespace(),
     };
-    match words.rest.next() {
-        None => Ok(None),
-        Some(name) => Ok(Some(words.command(name)?)),
-    }
+    words
+        .rest
+        .next()
+        .map(|name| words.command(name))
+        .transpose()
 }

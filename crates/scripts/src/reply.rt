@@ -3,6 +3,7 @@
 use crate::grid::Grid;
 use mvl::refusal::Refusal;
 
+/// What a command is answered.
 #[derive(Clone, Copy)]
 pub enum Reply {
     /// To a choice, a fill or a turn.

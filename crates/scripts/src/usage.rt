@@ -1,5 +1,6 @@
 //! The text that explains the program and every line of a script.
 
+/// What `jakuvyre --help` prints.
 pub const USAGE: &str =
     "jakuvyre plays a script that asks labellings and operations of multiple-valued logic, and lists the answers.
 
