@@ -1,10 +1,13 @@
 //! How many calls were granted, and refused with which number.
 
+use mvl::refusal::Refusal;
+
+/// The refusals are counted by number, in an array, so that counting asks for no memory.
 #[derive(Clone, Copy)]
 pub(crate) struct Tally {
     pub(crate) calls: usize,
-    granted: usize,
-    refused: [usize; 15],
+    pub(crate) granted: usize,
+    pub(crate) refused: [usize; 15],
 }
 
 impl Tally {
@@ -21,19 +24,11 @@ impl Tally {
         self.granted = self.granted.wrapping_add(1);
     }
 
-    pub(crate) fn refuse(&mut self, number: u8) {
+    pub(crate) fn refuse(&mut self, refusal: Refusal) {
         self.calls = self.calls.wrapping_add(1);
-        let i = number as usize;
-        if i < 15 {
-            self.refused[i] = self.refused[i].wrapping_add(1);
+        let number = usize::from(refusal.number());
+        if let Some(times) = self.refused.get_mut(number) {
+            *times = times.wrapping_add(1);
         }
-    }
-
-    pub(crate) fn granted(&self) -> usize {
-        self.granted
-    }
-
-    pub(crate) fn refused(&self, number: usize) -> usize {
-        self.refused.get(number).copied().unwrap_or(0)
     }
 }
