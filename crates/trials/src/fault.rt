@@ -1,54 +1,24 @@
 //! What ends a trial.
 
 use mvl::refusal::Refusal;
-use std::alloc::{AllocError, AllocFailed};
-use std::error::Error;
-use std::fmt;
+use std::alloc::AllocError;
+use thiserror::Error;
 
 /// What was expected and found; a refusal by its number, and 0 where there was none.
-#[derive(Clone, Copy, Debug)]
+#[derive(Clone, Copy, Debug, Error)]
+#[error("{what}: expected {expected}, found {found}")]
 pub(crate) struct Difference {
     pub(crate) what: &'static str,
     pub(crate) expected: usize,
     pub(crate) found: usize,
 }
 
-impl fmt::Display for Difference {
-    fn fmt<W: fmt::Write>(&self, f: &mut fmt::Formatter<W>) -> fmt::Result {
-        let what = self.what;
-        let expected = self.expected;
-        let found = self.found;
-        write!(f, "{what}: expected {expected}, found {found}")
-    }
-}
-
-#[derive(Clone, Copy, Debug)]
+#[derive(Clone, Copy, Debug, Error)]
 pub(crate) enum Fault {
-    Memory,
-    Differs(Difference),
-}
-
-impl fmt::Display for Fault {
-    fn fmt<W: fmt::Write>(&self, f: &mut fmt::Formatter<W>) -> fmt::Result {
-        match self {
-            Fault::Memory => write!(f, "out of memory"),
-            Fault::Differs(_) => write!(f, "a difference"),
-        }
-    }
-}
-
-impl Error for Fault {}
-
-impl From<AllocError> for Fault {
-    fn from(_e: AllocError) -> Fault {
-        Fault::Memory
-    }
-}
-
-impl<T: Drop> From<AllocFailed<T>> for Fault {
-    fn from(_e: AllocFailed<T>) -> Fault {
-        Fault::Memory
-    }
+    #[error("out of memory")]
+    Memory(#[from(alloc)] AllocError),
+    #[error("a difference")]
+    Differs(#[from] Difference),
 }
 
 /// A difference where the two numbers are not the same.
@@ -74,14 +44,13 @@ pub(crate) fn agree_refused(
 
 /// What was answered; a difference where it was refused.
 pub(crate) fn granted<T>(what: &'static str, found: Result<T, Refusal>) -> Result<T, Fault> {
-    match found {
-        Ok(answer) => Ok(answer),
-        Err(refusal) => Err(Fault::Differs(Difference {
+    found.map_err(|refusal| {
+        Fault::Differs(Difference {
             what,
             expected: 0,
             found: number(Some(refusal)),
-        })),
-    }
+        })
+    })
 }
 
 fn number(refusal: Option<Refusal>) -> usize {

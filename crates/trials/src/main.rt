@@ -39,86 +39,76 @@ struct Plan {
     calls: usize,
 }
 
-fn read_plan(rt: &HostRuntime) -> anyhow::Result<Plan> {
-    let mut words = env::args(rt)?.skip(1);
-    let seed = match words.next() {
-        Some(word) => word.as_str().parse::<u64>()?,
-        None => 1,
-    };
-    let calls = match words.next() {
-        Some(word) => word.as_str().parse::<usize>()?,
-        None => 25_000,
-    };
-    Ok(Plan { seed, calls })
-}
-
-// The calls on tables of one labelling and radix; none where it does not serve that radix.
-fn play(rt: &HostRuntime, plan: Plan, labels: Labels) -> anyhow::Result<usize> {
-    match labels.kind {
-        Kind::Plain => play_on(rt, plan, labels, Plain::new(labels.radix)),
-        Kind::Complement => play_on(rt, plan, labels, Complement::new(labels.radix)),
-        Kind::Cyclic => play_on(rt, plan, labels, Cyclic::new(labels.radix)),
+impl Plan {
+    fn read(rt: &HostRuntime) -> anyhow::Result<Plan> {
+        let mut words = env::args(rt)?.skip(1);
+        let seed = match words.next() {
+            Some(word) => word.as_str().parse::<u64>()?,
+            None => 1,
+        };
+        let calls = match words.next() {
+            Some(word) => word.as_str().parse::<usize>()?,
+            None => 25_000,
+        };
+        Ok(Plan { seed, calls })
     }
-}
 
-fn play_on<L: Labelling + Copy + Drop>(
-    rt: &HostRuntime,
-    plan: Plan,
-    labels: Labels,
-    made: Result<L, Refusal>,
-) -> anyhow::Result<usize> {
-    let Ok(labelling) = made else {
-        return Ok(0);
-    };
-    let seed = plan.seed.wrapping_mul(64).wrapping_add(labels.number());
-    let mut round = Round {
-        heap: rt.alloc(),
-        labelling,
-        labels,
-        random: Random::new(seed),
-        tally: Tally::new(),
-    };
-    let ended = round.play(plan.calls);
-    tell(rt, plan, labels, &round.tally, ended)?;
-    Ok(round.tally.calls)
-}
-
-// What came of it: a line of counts, or a difference.
-fn tell(
-    rt: &HostRuntime,
-    plan: Plan,
-    labels: Labels,
-    tally: &Tally,
-    ended: Result<(), Fault>,
-) -> anyhow::Result<()> {
-    if let Err(Fault::Differs(difference)) = ended {
-        let seed = plan.seed;
-        let calls = tally.calls;
-        println!(rt; "{labels}: seed {seed}, after {calls} calls: {difference}")?;
-    }
-    ended?;
-    count(rt, labels, tally)
-}
-
-fn count(rt: &HostRuntime, labels: Labels, tally: &Tally) -> anyhow::Result<()> {
-    let calls = tally.calls;
-    let granted = tally.granted;
-    print!(rt; "{labels}: {calls} calls, {granted} granted, refused")?;
-    for (number, times) in tally.refused.iter().enumerate() {
-        if *times > 0 {
-            print!(rt; " {number}: {times}")?;
+    // How many calls were played with labels of one kind and radix: none where the labelling does not serve that radix.
+    fn play(&self, rt: &HostRuntime, labels: Labels) -> anyhow::Result<usize> {
+        match labels.kind {
+            Kind::Plain => self.play_on(rt, labels, Plain::new(labels.radix)),
+            Kind::Complement => self.play_on(rt, labels, Complement::new(labels.radix)),
+            Kind::Cyclic => self.play_on(rt, labels, Cyclic::new(labels.radix)),
         }
     }
-    println!(rt; "")?;
-    Ok(())
+
+    fn play_on<L: Labelling + Copy + Drop>(
+        &self,
+        rt: &HostRuntime,
+        labels: Labels,
+        made: Result<L, Refusal>,
+    ) -> anyhow::Result<usize> {
+        let Ok(labelling) = made else {
+            return Ok(0);
+        };
+        let seed = self.seed.wrapping_mul(64).wrapping_add(labels.number());
+        let mut round = Round {
+            heap: rt.alloc(),
+            labelling,
+            labels,
+            random: Random::new(seed),
+            tally: Tally::new(),
+        };
+        let ended = round.play(self.calls);
+        self.tell(rt, labels, &round.tally, ended)?;
+        Ok(round.tally.calls)
+    }
+
+    // What came of it: a line of counts, or a difference.
+    fn tell(
+        &self,
+        rt: &HostRuntime,
+        labels: Labels,
+        tally: &Tally,
+        ended: Result<(), Fault>,
+    ) -> anyhow::Result<()> {
+        if let Err(Fault::Differs(difference)) = ended {
+            let seed = self.seed;
+            let calls = tally.calls;
+            println!(rt; "{labels}: seed {seed}, after {calls} calls: {difference}")?;
+        }
+        ended?;
+        println!(rt; "{labels}: {tally}")?;
+        Ok(())
+    }
 }
 
 fn run(rt: &HostRuntime) -> anyhow::Result<()> {
-    let plan = read_plan(rt)?;
+    let plan = Plan::read(rt)?;
     let mut calls = 0usize;
     for kind in [Kind::Plain, Kind::Complement, Kind::Cyclic] {
         for radix in 2..5 {
-            calls = calls.wrapping_add(play(rt, plan, Labels { kind, radix })?);
+            calls = calls.wrapping_add(plan.play(rt, Labels { kind, radix })?);
         }
     }
     println!(rt; "trials: {calls} calls, 0 differences")?;

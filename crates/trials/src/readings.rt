@@ -13,10 +13,11 @@ impl<L: Labelling + Copy> Trial<L> {
         let e = self.some_edge();
         let i = self.random.below(self.model.shape.count());
         let mut bytes = self.model.shape.bytes(i);
-        let mut n = self.model.shape.n;
-        if self.random.once_in(6) {
-            n = self.random.below(5);
-        }
+        let n = if self.random.once_in(6) {
+            self.random.below(5)
+        } else {
+            self.model.shape.n
+        };
         if self.random.once_in(6) {
             let x = self.random.below(4);
             bytes[x] = self.random.byte(6);

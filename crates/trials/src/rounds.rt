@@ -13,7 +13,7 @@ use tables::calls::table::Table;
 use tables::parts::card::Card;
 
 /// Tables of one labelling, and what was drawn and counted so far.
-#[derive(Clone, Copy)]
+#[derive(Drop)]
 pub(crate) struct Round<L> {
     pub(crate) heap: Global,
     pub(crate) labelling: L,
@@ -56,7 +56,7 @@ impl<L: Labelling + Copy + Drop> Round<L> {
     fn one_table(&mut self, filling: Filling) -> Result<Option<usize>, Fault> {
         let mut card = Card::new();
         if !filling.is_new() {
-            filling.fill(&mut card, &mut self.random, &mut self.tally)?;
+            self.fill(&mut card, &filling)?;
         }
         let table = Table::open(self.heap, card, self.labelling)?;
         let model = Model::new(self.heap, filling.shape, self.labels, filling.capacity);

@@ -1,13 +1,14 @@
 //! How many calls were granted, and refused with which number.
 
 use mvl::refusal::Refusal;
+use std::fmt;
 
 /// The refusals are counted by number, in an array, so that counting asks for no memory.
 #[derive(Clone, Copy)]
 pub(crate) struct Tally {
     pub(crate) calls: usize,
-    pub(crate) granted: usize,
-    pub(crate) refused: [usize; 15],
+    granted: usize,
+    refused: [usize; 15],
 }
 
 impl Tally {
@@ -30,5 +31,20 @@ impl Tally {
         if let Some(times) = self.refused.get_mut(number) {
             *times = times.wrapping_add(1);
         }
+    }
+}
+
+/// As `9 calls, 6 granted, refused 3: 1 5: 2`.
+impl fmt::Display for Tally {
+    fn fmt<W: fmt::Write>(&self, f: &mut fmt::Formatter<W>) -> fmt::Result {
+        let calls = self.calls;
+        let granted = self.granted;
+        write!(f, "{calls} calls, {granted} granted, refused")?;
+        for (number, times) in self.refused.iter().enumerate() {
+            if *times > 0 {
+                write!(f, " {number}: {times}")?;
+            }
+        }
+        Ok(())
     }
 }

@@ -39,10 +39,11 @@ impl<L: Labelling + Copy> Trial<L> {
 
     /// Any operation, mostly of the table's radix.
     pub(crate) fn play_apply(&mut self) -> Result<(), Fault> {
-        let mut p = self.model.labels.radix;
-        if self.random.once_in(12) {
-            p = self.random.byte(3).wrapping_add(2);
-        }
+        let p = if self.random.once_in(12) {
+            self.random.byte(3).wrapping_add(2)
+        } else {
+            self.model.labels.radix
+        };
         match self.random.below(6) {
             0 => self.operate(Minimum::new(p), Meaning::of(p, |a, b| a.min(b))),
             1 => self.operate(Maximum::new(p), Meaning::of(p, |a, b| a.max(b))),
@@ -64,10 +65,11 @@ impl<L: Labelling + Copy> Trial<L> {
         let square = usize::from(p).wrapping_mul(usize::from(p));
         let long = self.random.once_in(16);
         let large = self.random.once_in(16);
-        let mut bytes = Vec::new(self.heap);
-        for _ in 0..square.wrapping_add(usize::from(long)) {
-            bytes.push(self.random.byte(p.wrapping_add(u8::from(large))))?;
-        }
+        let count = square.wrapping_add(usize::from(long));
+        let end = p.wrapping_add(u8::from(large));
+        let bytes: Vec<u8> = (0..count)
+            .map(|_| self.random.byte(end))
+            .collect(self.heap)?;
         let judged = judge_fill(p, long, &bytes);
         let found = table.fill(&bytes);
         agree_refused("a filling is refused with", judged.err(), found.err())?;
