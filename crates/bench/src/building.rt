@@ -12,14 +12,11 @@ use tables::calls::table::Table;
 use tables::parts::card::Card;
 use tables::parts::edge::Edge;
 
-/// An empty table of `n` four-valued variables, with a label for each value, and room for 2,000 nodes.
-pub(crate) fn opened(heap: Global, n: usize) -> Result<Table<Cyclic>, Fault> {
+/// An empty table of variables of these sizes, with a label for each of four values, and room for 2,000 nodes.
+pub(crate) fn opened(heap: Global, sizes: &[u8]) -> Result<Table<Cyclic>, Fault> {
     let labelling = Cyclic::new(4)?;
-    let sizes = [4u8; 12];
     let mut card = Card::new();
-    if let Some(some) = sizes.get(0..n) {
-        card.fill(some, 2000)?;
-    }
+    card.fill(sizes, 2000)?;
     Ok(Table::open(heap, card, labelling)?)
 }
 

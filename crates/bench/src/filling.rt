@@ -12,14 +12,14 @@ use tables::parts::edge::Edge;
 // What a call answered, as a number.
 fn number(found: Result<Edge, Refusal>) -> u64 {
     match found {
-        Ok(e) => e.number() as u64,
-        Err(why) => 65536 + why.number() as u64,
+        Ok(e) => u64::from(e.number()),
+        Err(why) => 65536 + u64::from(why.number()),
     }
 }
 
 fn random_operation(random: &mut Random) -> Result<TableOperation, Fault> {
     let mut operation = TableOperation::new(4)?;
-    let answers = random.answers();
+    let answers: [u8; 16] = random.values();
     operation.fill(&answers)?;
     Ok(operation)
 }
@@ -31,10 +31,8 @@ fn random_function(table: &mut Table<Cyclic>, random: &mut Random) -> Result<u64
     let a = table.variable(random.variable())?;
     let b = table.variable(random.variable())?;
     let c = table.variable(random.variable())?;
-    match table.apply(&inner, a, b) {
-        Ok(e) => Ok(number(table.apply(&outer, e, c))),
-        Err(why) => Ok(number(Err(why))),
-    }
+    let found = table.apply(&inner, a, b);
+    Ok(number(found.and_then(|e| table.apply(&outer, e, c))))
 }
 
 /// Random functions from a seed, again and again the same; a function is a piece of work.
@@ -46,13 +44,22 @@ pub(crate) fn functions(
 ) -> Result<Part, Fault> {
     let mut part = Part::new();
     for _ in 0..times {
-        let mut random = Random::new(seed);
-        for _ in 0..count {
-            let answer = random_function(table, &mut random)?;
-            part.add(answer, 1);
-        }
+        add_functions(&mut part, table, seed, count)?;
     }
     Ok(part)
+}
+
+fn add_functions(
+    part: &mut Part,
+    table: &mut Table<Cyclic>,
+    seed: u64,
+    count: u32,
+) -> Result<(), Fault> {
+    let mut random = Random::new(seed);
+    for _ in 0..count {
+        part.add(random_function(table, &mut random)?, 1);
+    }
+    Ok(())
 }
 
 /// The literals, again and again; a call is a piece of work.

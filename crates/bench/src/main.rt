@@ -13,72 +13,74 @@ mod reading;
 mod rounds;
 mod telling;
 
-use building::{opened, sum};
-use fault::told;
+use building::{largest, opened, sum, threshold};
 use filling::{functions, literals};
 use part::Part;
 use reading::readings;
-use rounds::{Built, rounds};
+use rounds::rounds;
 use std::env;
 use std::time::Instant;
 use telling::Teller;
 
-// How many pairs of edges the walks come to that build the sum of twelve variables. No call tells it: bench/baseline.c counts them.
-const STEPS: u64 = 29826151;
+// How many pairs of edges the walks of one building come to. No call tells it: bench/baseline.c counts them.
+const STEPS_OF_SUM_12: u64 = 29826151;
+
+const STEPS_OF_SUM_8: u64 = 116499;
+
+const STEPS_OF_LARGEST: u64 = 26211;
+
+const STEPS_OF_THRESHOLD: u64 = 6752;
 
 // How many random functions nearly fill a table.
 const FILL: u32 = 350;
 
 fn asked_for(rt: &HostRuntime) -> anyhow::Result<Teller> {
-    let mut timed = false;
-    for word in env::args(rt)? {
-        if word.as_str() == "time" {
-            timed = true;
-        }
-    }
+    let mut words = env::args(rt)?;
+    let timed = words.any(|word| word.as_str() == "time");
     Ok(Teller { timed })
 }
 
 // The sum of twelve variables is built, and read a million times.
 fn read(rt: &HostRuntime, teller: Teller) -> anyhow::Result<()> {
+    // Timed by hand, since the table goes on to the readings.
     let start = Instant::now(rt)?;
-    let mut table = told(opened(rt.alloc(), 12))?;
-    let e = told(sum(&mut table, 12))?;
+    let mut table = opened(rt.alloc(), &[4; 12])?;
+    let e = sum(&mut table, 12)?;
+    let spent = start.elapsed(rt)?;
     let mut part = Part::new();
-    part.add(e.number() as u64, STEPS);
-    teller.tell(rt, "sum of 12", "step", part, start)?;
-    let start = Instant::now(rt)?;
-    let part = told(readings(&table, e, 1000000))?;
-    teller.tell(rt, "readings", "visit", part, start)
+    part.add(u64::from(e.number()), STEPS_OF_SUM_12);
+    teller.tell(rt, "sum of 12", "step", part, spent)?;
+    teller.time(rt, "readings", "visit", || readings(&table, e, 1000000))
 }
 
 fn build(rt: &HostRuntime, teller: Teller) -> anyhow::Result<()> {
-    let start = Instant::now(rt)?;
-    let part = told(rounds(rt.alloc(), Built::Sum))?;
-    teller.tell(rt, "sum of 8", "step", part, start)?;
-    let start = Instant::now(rt)?;
-    let part = told(rounds(rt.alloc(), Built::Largest))?;
-    teller.tell(rt, "largest of 8", "step", part, start)?;
-    let start = Instant::now(rt)?;
-    let part = told(rounds(rt.alloc(), Built::Threshold))?;
-    teller.tell(rt, "threshold of 8", "step", part, start)
+    let heap = rt.alloc();
+    teller.time(rt, "sum of 8", "step", || {
+        rounds(heap, |table| sum(table, 8), STEPS_OF_SUM_8)
+    })?;
+    teller.time(rt, "largest of 8", "step", || {
+        rounds(heap, largest, STEPS_OF_LARGEST)
+    })?;
+    teller.time(rt, "threshold of 8", "step", || {
+        rounds(heap, threshold, STEPS_OF_THRESHOLD)
+    })
 }
 
 // A table is filled by random functions, asked for the same again and for others, and for literals.
 fn fill(rt: &HostRuntime, teller: Teller) -> anyhow::Result<()> {
-    let mut table = told(opened(rt.alloc(), 8))?;
-    let start = Instant::now(rt)?;
-    let part = told(functions(&mut table, 3, 1, FILL))?;
-    teller.tell(rt, "filling", "function", part, start)?;
-    let start = Instant::now(rt)?;
-    let part = told(functions(&mut table, 3, 100, FILL))?;
-    teller.tell(rt, "asked again", "function", part, start)?;
-    let start = Instant::now(rt)?;
-    let part = told(functions(&mut table, 4, 1, 100000))?;
-    teller.tell(rt, "others", "function", part, start)?;
-    let start = Instant::now(rt)?;
-    let part = literals(&mut table, 1000000);
-    teller.tell(rt, "literals", "call", part, start)
+    let mut table = opened(rt.alloc(), &[4; 8])?;
+    teller.time(rt, "filling", "function", || {
+        functions(&mut table, 3, 1, FILL)
+    })?;
+    teller.time(rt, "asked again", "function", || {
+        functions(&mut table, 3, 100, FILL)
+    })?;
+    teller.time(rt, "others", "function", || {
+        functions(&mut table, 4, 1, 100000)
+    })?;
+    teller.time(rt, "literals", "call", || {
+        Ok(literals(&mut table, 1000000))
+    })
 }
 
 fn run(rt: &HostRuntime) -> anyhow::Result<()> {

@@ -1,5 +1,7 @@
 //! Numbers that look random and are the same in every run.
 
+use std::array;
+
 #[derive(Clone, Copy)]
 pub(crate) struct Random {
     state: u64,
@@ -23,25 +25,13 @@ impl Random {
         ((bits >> 8) & 7) as u8
     }
 
-    /// Twelve values below 4.
-    pub(crate) fn reading(&mut self) -> [u8; 12] {
+    /// Values below 4, at most sixteen, by two bits each.
+    pub(crate) fn values<const N: usize>(&mut self) -> [u8; N] {
         let mut bits = self.next();
-        let mut values = [0u8; 12];
-        for x in 0..12usize {
-            values[x] = (bits & 3) as u8;
-            bits = bits >> 2;
-        }
-        values
-    }
-
-    /// Sixteen values below 4.
-    pub(crate) fn answers(&mut self) -> [u8; 16] {
-        let mut bits = self.next();
-        let mut values = [0u8; 16];
-        for x in 0..16usize {
-            values[x] = (bits & 3) as u8;
-            bits = bits >> 2;
-        }
-        values
+        array::from_fn(|_| {
+            let value = (bits & 3) as u8;
+            bits >>= 2;
+            value
+        })
     }
 }

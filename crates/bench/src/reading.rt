@@ -12,9 +12,9 @@ pub(crate) fn readings(table: &Table<Cyclic>, e: Edge, count: u32) -> Result<Par
     let mut random = Random::new(1);
     let mut part = Part::new();
     for _ in 0..count {
-        let values = random.reading();
+        let values: [u8; 12] = random.values();
         let reading = table.evaluate(e, &values)?;
-        part.add(reading.value as u64, reading.visited as u64);
+        part.add(u64::from(reading.value), u64::from(reading.visited));
     }
     Ok(part)
 }

@@ -1,7 +1,10 @@
-//! The lines that are printed.
+//! Work is timed, and a line of it printed.
 
+ghost use Rattle.std.specs.Prelude.{◌≡◌};
+
+use crate::fault::Fault;
 use crate::part::Part;
-use std::time::Instant;
+use std::time::{Duration, Instant};
 
 /// Whether times are printed.
 #[derive(Clone, Copy)]
@@ -10,22 +13,37 @@ pub(crate) struct Teller {
 }
 
 impl Teller {
-    /// A line of a part that was begun at `start`.
+    /// Some work, and the line of it. The clock is read right before the work and right after it.
+    pub(crate) fn time<F: FnOnce() -> Result<Part, Fault>>(
+        self,
+        rt: &HostRuntime,
+        name: &str,
+        unit: &str,
+        work: F,
+    ) -> anyhow::Result<()>
+        requires { F.IsAlwaysCallable work }
+    {
+        let start = Instant::now(rt)?;
+        let part = work()?;
+        let spent = start.elapsed(rt)?;
+        self.tell(rt, name, unit, part, spent)
+    }
+
+    /// The line of a part of the work.
     pub(crate) fn tell(
         self,
         rt: &HostRuntime,
         name: &str,
         unit: &str,
         part: Part,
-        start: Instant,
+        spent: Duration,
     ) -> anyhow::Result<()> {
-        let spent = start.elapsed(rt)?;
         let check = part.check;
         let count = part.count;
         print!(rt; "{name}: check {check}, {count} {unit}s")?;
         if self.timed {
             let seconds = spent.as_secs().wrapping_mul(1000000000);
-            let nanos = seconds.wrapping_add(spent.subsec_nanos() as u64);
+            let nanos = seconds.wrapping_add(u64::from(spent.subsec_nanos()));
             let micros = nanos / 1000;
             let tenths = nanos.wrapping_mul(10) / count.max(1);
             let whole = tenths / 10;

@@ -1,30 +1,24 @@
 //! What ends a trial.
 
-use std::alloc::{AllocError, AllocFailed};
+use mvl::refusal::Refusal;
+use std::alloc::AllocError;
+use thiserror::Error;
 
-#[derive(Clone, Copy)]
+/// What was expected and found; a refusal by its number, and 0 where there was none.
+#[derive(Clone, Copy, Debug, Error)]
+#[error("{what}: expected {expected}, found {found}")]
 pub(crate) struct Difference {
     pub(crate) what: &'static str,
     pub(crate) expected: usize,
     pub(crate) found: usize,
 }
 
-#[derive(Clone, Copy)]
+#[derive(Clone, Copy, Debug, Error)]
 pub(crate) enum Fault {
-    Memory,
-    Differs(Difference),
-}
-
-impl From<AllocError> for Fault {
-    fn from(_e: AllocError) -> Fault {
-        Fault::Memory
-    }
-}
-
-impl<T: Drop> From<AllocFailed<T>> for Fault {
-    fn from(_e: AllocFailed<T>) -> Fault {
-        Fault::Memory
-    }
+    #[error("out of memory")]
+    Memory(#[from(alloc)] AllocError),
+    #[error("a difference")]
+    Differs(#[from] Difference),
 }
 
 /// A difference where the two numbers are not the same.
@@ -37,4 +31,28 @@ pub(crate) fn agree(what: &'static str, expected: usize, found: usize) -> Result
         expected,
         found,
     }))
+}
+
+/// The same of two refusals, or none.
+pub(crate) fn agree_refused(
+    what: &'static str,
+    expected: Option<Refusal>,
+    found: Option<Refusal>,
+) -> Result<(), Fault> {
+    agree(what, number(expected), number(found))
+}
+
+/// What was answered; a difference where it was refused.
+pub(crate) fn granted<T>(what: &'static str, found: Result<T, Refusal>) -> Result<T, Fault> {
+    found.map_err(|refusal| {
+        Fault::Differs(Difference {
+            what,
+            expected: 0,
+            found: number(Some(refusal)),
+        })
+    })
+}
+
+fn number(refusal: Option<Refusal>) -> usize {
+    refusal.map_or(0, |refusal| usize::from(refusal.number()))
 }

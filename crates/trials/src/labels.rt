@@ -1,5 +1,7 @@
 //! What labels do to values, as the rules have it and nothing else.
 
+use std::fmt;
+
 #[derive(Clone, Copy, PartialEq, Eq)]
 pub(crate) enum Kind {
     Plain,
@@ -14,15 +16,20 @@ pub(crate) struct Labels {
     pub(crate) radix: u8,
 }
 
-impl Labels {
-    pub(crate) fn name(&self) -> &'static str {
-        match self.kind {
+/// The name and the radix, as `cyclic 4`.
+impl fmt::Display for Labels {
+    fn fmt<W: fmt::Write>(&self, f: &mut fmt::Formatter<W>) -> fmt::Result {
+        let name = match self.kind {
             Kind::Plain => "plain",
             Kind::Complement => "complement",
             Kind::Cyclic => "cyclic",
-        }
+        };
+        let radix = self.radix;
+        write!(f, "{name} {radix}")
     }
+}
 
+impl Labels {
     /// Another number for each.
     pub(crate) fn number(&self) -> u64 {
         let kind = match self.kind {
@@ -30,7 +37,7 @@ impl Labels {
             Kind::Complement => 16,
             Kind::Cyclic => 24,
         };
-        self.radix as u64 + kind
+        u64::from(self.radix) + kind
     }
 
     pub(crate) fn count(&self) -> u8 {
@@ -45,36 +52,24 @@ impl Labels {
         let p = self.radix.max(1);
         match self.kind {
             Kind::Plain => v,
-            Kind::Complement => {
-                if k == 0 {
-                    v
-                } else {
-                    p.wrapping_sub(1).wrapping_sub(v)
-                }
-            }
+            Kind::Complement if k == 0 => v,
+            Kind::Complement => p.wrapping_sub(1).wrapping_sub(v),
             Kind::Cyclic => v.wrapping_add(k) % p,
         }
     }
 
-    /// The least value from which some label carries to `v`.
-    pub(crate) fn home(&self, v: u8) -> u8 {
-        for home in 0..self.radix {
-            for k in 0..self.count() {
-                if self.carry(k, home) == v {
-                    return home;
-                }
-            }
-        }
-        v
+    /// The least value from which some label carries to `v`; none where `v` is no value.
+    pub(crate) fn home(&self, v: u8) -> Option<u8> {
+        (0..self.radix).find(|home| self.leading(*home, v).is_some())
     }
 
-    /// The label that carries `from` to `to`; 0 where none does.
-    pub(crate) fn leading(&self, from: u8, to: u8) -> u8 {
-        for k in 0..self.count() {
-            if self.carry(k, from) == to {
-                return k;
-            }
-        }
-        0
+    /// The label that carries `from` to `to`, if one does.
+    pub(crate) fn leading(&self, from: u8, to: u8) -> Option<u8> {
+        (0..self.count()).find(|k| self.carry(*k, from) == to)
+    }
+
+    /// The label that carries `v` home.
+    pub(crate) fn homing(&self, v: u8) -> Option<u8> {
+        self.leading(v, self.home(v)?)
     }
 }

@@ -4,26 +4,31 @@
 
 #![tactic(auto)]
 
+mod arguments;
 mod calls;
+mod cards;
 mod fault;
 mod function;
 mod labels;
 mod meaning;
 mod model;
 mod random;
+mod readings;
 mod rounds;
 mod shape;
 mod tally;
 mod trial;
 mod walks;
 
-use anyhow::anyhow;
 use fault::Fault;
 use labels::{Kind, Labels};
 use mvl::complement::Complement;
 use mvl::cyclic::Cyclic;
+use mvl::labelling::Labelling;
 use mvl::plain::Plain;
-use rounds::{Outcome, round};
+use mvl::refusal::Refusal;
+use random::Random;
+use rounds::Round;
 use std::env;
 use tally::Tally;
 
@@ -34,93 +39,76 @@ struct Plan {
     calls: usize,
 }
 
-fn read_plan(rt: &HostRuntime) -> anyhow::Result<Plan> {
-    let mut plan = Plan {
-        seed: 1,
-        calls: 25_000,
-    };
-    let mut i = 0u8;
-    for word in env::args(rt)? {
-        match i {
-            1 => plan.seed = word.as_str().parse::<u64>()?,
-            2 => plan.calls = word.as_str().parse::<usize>()?,
-            _ => {}
-        }
-        i = i.wrapping_add(1);
+impl Plan {
+    fn read(rt: &HostRuntime) -> anyhow::Result<Plan> {
+        let mut words = env::args(rt)?.skip(1);
+        let seed = match words.next() {
+            Some(word) => word.as_str().parse::<u64>()?,
+            None => 1,
+        };
+        let calls = match words.next() {
+            Some(word) => word.as_str().parse::<usize>()?,
+            None => 25_000,
+        };
+        Ok(Plan { seed, calls })
     }
-    Ok(plan)
-}
 
-// One labelling at one radix; nothing where it does not serve that radix.
-fn play(rt: &HostRuntime, plan: Plan, labels: Labels) -> Option<Outcome> {
-    let heap = rt.alloc();
-    let seed = plan.seed.wrapping_mul(64).wrapping_add(labels.number());
-    match labels.kind {
-        Kind::Plain => match Plain::new(labels.radix) {
-            Ok(labelling) => Some(round(heap, labelling, labels, seed, plan.calls)),
-            Err(_) => None,
-        },
-        Kind::Complement => match Complement::new(labels.radix) {
-            Ok(labelling) => Some(round(heap, labelling, labels, seed, plan.calls)),
-            Err(_) => None,
-        },
-        Kind::Cyclic => match Cyclic::new(labels.radix) {
-            Ok(labelling) => Some(round(heap, labelling, labels, seed, plan.calls)),
-            Err(_) => None,
-        },
+    // How many calls were played with labels of one kind and radix: none where the labelling does not serve that radix.
+    fn play(&self, rt: &HostRuntime, labels: Labels) -> anyhow::Result<usize> {
+        match labels.kind {
+            Kind::Plain => self.play_on(rt, labels, Plain::new(labels.radix)),
+            Kind::Complement => self.play_on(rt, labels, Complement::new(labels.radix)),
+            Kind::Cyclic => self.play_on(rt, labels, Cyclic::new(labels.radix)),
+        }
     }
-}
 
-// What came of it: a line of counts, or a difference.
-fn tell(rt: &HostRuntime, plan: Plan, labels: Labels, outcome: Outcome) -> anyhow::Result<usize> {
-    let name = labels.name();
-    let radix = labels.radix;
-    let tally = outcome.tally;
-    let calls = tally.calls;
-    match outcome.fault {
-        None => {
-            count(rt, labels, &tally)?;
-            Ok(calls)
-        }
-        Some(Fault::Memory) => Err(anyhow!("out of memory")),
-        Some(Fault::Differs(d)) => {
-            let what = d.what;
-            let expected = d.expected;
-            let found = d.found;
-            let seed = plan.seed;
-            println!(rt;
-                "{name} {radix}: seed {seed}, after {calls} calls: {what}: expected {expected}, found {found}"
-            )?;
-            Err(anyhow!("a difference"))
-        }
+    fn play_on<L: Labelling + Copy + Drop>(
+        &self,
+        rt: &HostRuntime,
+        labels: Labels,
+        made: Result<L, Refusal>,
+    ) -> anyhow::Result<usize> {
+        let Ok(labelling) = made else {
+            return Ok(0);
+        };
+        let seed = self.seed.wrapping_mul(64).wrapping_add(labels.number());
+        let mut round = Round {
+            heap: rt.alloc(),
+            labelling,
+            labels,
+            random: Random::new(seed),
+            tally: Tally::new(),
+        };
+        let ended = round.play(self.calls);
+        self.tell(rt, labels, &round.tally, ended)?;
+        Ok(round.tally.calls)
     }
-}
 
-fn count(rt: &HostRuntime, labels: Labels, tally: &Tally) -> anyhow::Result<()> {
-    let name = labels.name();
-    let radix = labels.radix;
-    let calls = tally.calls;
-    let granted = tally.granted();
-    print!(rt; "{name} {radix}: {calls} calls, {granted} granted, refused")?;
-    for number in 1..15 {
-        let times = tally.refused(number);
-        if times > 0 {
-            print!(rt; " {number}: {times}")?;
+    // What came of it: a line of counts, or a difference.
+    fn tell(
+        &self,
+        rt: &HostRuntime,
+        labels: Labels,
+        tally: &Tally,
+        ended: Result<(), Fault>,
+    ) -> anyhow::Result<()> {
+        if let Err(Fault::Differs(difference)) = ended {
+            let seed = self.seed;
+            let calls = tally.calls;
+            println!(rt; "{labels}: seed {seed}, after {calls} calls: {difference}")?;
         }
+        ended?;
+        println!(rt; "{labels}: {tally}")?;
+        Ok(())
     }
-    println!(rt; "")?;
-    Ok(())
 }
 
 fn run(rt: &HostRuntime) -> anyhow::Result<()> {
-    let plan = read_plan(rt)?;
+    let plan = Plan::read(rt)?;
     let mut calls = 0usize;
     for kind in [Kind::Plain, Kind::Complement, Kind::Cyclic] {
-        for radix in 2u8..5 {
-            let labels = Labels { kind, radix };
-            if let Some(outcome) = play(rt, plan, labels) {
-                calls = calls.wrapping_add(tell(rt, plan, labels, outcome)?);
-            }
+        for radix in 2..5 {
+            calls = calls.wrapping_add(plan.play(rt, Labels { kind, radix })?);
         }
     }
     println!(rt; "trials: {calls} calls, 0 differences")?;

@@ -5,6 +5,7 @@ use crate::function::Function;
 use crate::labels::Labels;
 use crate::shape::Shape;
 use std::alloc::Global;
+use std::collections::BTreeMap;
 
 /// An edge that was answered, with its function and the number of nodes on the path at each assignment.
 #[derive(Clone, Copy)]
@@ -14,20 +15,14 @@ pub(crate) struct Kept {
     pub(crate) visits: Function,
 }
 
-/// A node, by the number that the table gave it and its function.
-#[derive(Clone, Copy)]
-pub(crate) struct NodeSeen {
-    pub(crate) number: usize,
-    pub(crate) function: Function,
-}
-
+/// The edges that were answered, and the function of each node by the number that the table gave it.
 #[derive(Drop)]
 pub(crate) struct Model {
     pub(crate) shape: Shape,
     pub(crate) labels: Labels,
     pub(crate) capacity: usize,
     pub(crate) kept: Vec<Kept>,
-    pub(crate) nodes: Vec<NodeSeen>,
+    pub(crate) nodes: BTreeMap<usize, Function>,
 }
 
 impl Model {
@@ -37,47 +32,31 @@ impl Model {
             labels,
             capacity,
             kept: Vec::new(heap),
-            nodes: Vec::new(heap),
+            nodes: BTreeMap::new(heap),
         }
     }
 
     pub(crate) fn has(&self, function: &Function) -> bool {
-        for node in self.nodes.iter() {
-            if node.function == *function {
-                return true;
-            }
-        }
-        false
-    }
-
-    /// The function of the node with this number.
-    pub(crate) fn node(&self, number: usize) -> Option<Function> {
-        for node in self.nodes.iter() {
-            if node.number == number {
-                return Some(node.function);
-            }
-        }
-        None
+        self.nodes.values().any(|node| *node == *function)
     }
 
     /// The function of the edge with this number; none where it is no edge of the table.
     pub(crate) fn edge(&self, number: u16) -> Option<Function> {
         let label = (number / 16384) as u8;
-        let target = number as usize % 16384;
         if label >= self.labels.count() {
             return None;
         }
-        let below = self.target(target)?;
+        let below = self.target(usize::from(number % 16384))?;
         Some(below.carried(&self.shape, &self.labels, label))
     }
 
     // The function of a terminal or a node.
     fn target(&self, target: usize) -> Option<Function> {
         if target >= 4 {
-            return self.node(target.wrapping_sub(4));
+            return self.nodes.get(&(target - 4)).copied();
         }
-        let v = (target & 3) as u8;
-        if v < self.labels.radix && self.labels.home(v) == v {
+        let v = target as u8;
+        if self.labels.home(v) == Some(v) {
             return Some(Function::constant(&self.shape, v));
         }
         None
@@ -87,39 +66,21 @@ impl Model {
     pub(crate) fn missing(&self, heap: Global, f: &Function) -> Result<Vec<Function>, Fault> {
         let mut out = Vec::new(heap);
         for x in 0..self.shape.n {
-            let width = self.shape.width(x).max(1);
-            for i in 0..self.shape.count() / width {
-                self.add_missing(&mut out, f, x, i.wrapping_mul(width))?;
-            }
+            self.add_missing(&mut out, f, x)?;
         }
         Ok(out)
     }
 
-    fn add_missing(
-        &self,
-        out: &mut Vec<Function>,
-        f: &Function,
-        x: usize,
-        start: usize,
-    ) -> Result<(), Fault> {
-        if !f.depends(&self.shape, x, start) {
-            return Ok(());
+    // Those of the nodes at place `x`, unless they are among `out` already.
+    fn add_missing(&self, out: &mut Vec<Function>, f: &Function, x: usize) -> Result<(), Fault> {
+        for start in (0..self.shape.count()).step_by(self.shape.width(x)) {
+            if f.depends(&self.shape, x, start) {
+                let node = f.node(&self.shape, &self.labels, x, start);
+                if !self.has(&node) && !out.contains(&node) {
+                    out.push(node)?;
+                }
+            }
         }
-        let node = f.node(&self.shape, &self.labels, x, start);
-        if self.has(&node) || among(out, &node) {
-            return Ok(());
-        }
-        out.push(node)?;
         Ok(())
     }
-}
-
-/// Whether a function is among some.
-pub(crate) fn among(functions: &Vec<Function>, f: &Function) -> bool {
-    for g in functions.iter() {
-        if *g == *f {
-            return true;
-        }
-    }
-    false
 }

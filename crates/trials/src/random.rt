@@ -1,5 +1,7 @@
 //! Numbers that look random and are the same in every run.
 
+ghost use Rattle.std.specs.Prelude.{◌<◌};
+
 #[derive(Clone, Copy)]
 pub(crate) struct Random {
     state: u64,
@@ -24,17 +26,17 @@ impl Random {
     }
 
     /// A number below `n`; 0 where that is 0.
-    pub(crate) fn below(&mut self, n: usize) -> usize {
-        let x = self.next();
-        let m = n.max(1);
-        x as usize % m
+    pub(crate) fn below(&mut self, n: usize) -> usize
+        ensures { 0 < n → result < n }
+    {
+        self.next() as usize % n.max(1)
     }
 
-    /// The same of a byte.
-    pub(crate) fn byte(&mut self, n: u8) -> u8 {
-        let x = self.next();
-        let m = n.max(1);
-        (x & 0xff) as u8 % m
+    /// A byte below `n`, from the last bits alone, so not what `below` would draw; 0 where that is 0.
+    pub(crate) fn byte(&mut self, n: u8) -> u8
+        ensures { 0 < n → result < n }
+    {
+        (self.next() & 0xff) as u8 % n.max(1)
     }
 
     /// Whether it is the one case in `n`.

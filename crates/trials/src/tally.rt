@@ -1,5 +1,9 @@
 //! How many calls were granted, and refused with which number.
 
+use mvl::refusal::Refusal;
+use std::fmt;
+
+/// The refusals are counted by number, in an array, so that counting asks for no memory.
 #[derive(Clone, Copy)]
 pub(crate) struct Tally {
     pub(crate) calls: usize,
@@ -21,19 +25,26 @@ impl Tally {
         self.granted = self.granted.wrapping_add(1);
     }
 
-    pub(crate) fn refuse(&mut self, number: u8) {
+    pub(crate) fn refuse(&mut self, refusal: Refusal) {
         self.calls = self.calls.wrapping_add(1);
-        let i = number as usize;
-        if i < 15 {
-            self.refused[i] = self.refused[i].wrapping_add(1);
+        let number = usize::from(refusal.number());
+        if let Some(times) = self.refused.get_mut(number) {
+            *times = times.wrapping_add(1);
         }
     }
+}
 
-    pub(crate) fn granted(&self) -> usize {
-        self.granted
-    }
-
-    pub(crate) fn refused(&self, number: usize) -> usize {
-        self.refused.get(number).copied().unwrap_or(0)
+/// As `9 calls, 6 granted, refused 3: 1 5: 2`.
+impl fmt::Display for Tally {
+    fn fmt<W: fmt::Write>(&self, f: &mut fmt::Formatter<W>) -> fmt::Result {
+        let calls = self.calls;
+        let granted = self.granted;
+        write!(f, "{calls} calls, {granted} granted, refused")?;
+        for (number, times) in self.refused.iter().enumerate() {
+            if *times > 0 {
+                write!(f, " {number}: {times}")?;
+            }
+        }
+        Ok(())
     }
 }

@@ -1,7 +1,7 @@
 //! Apply and restrict, with good and bad arguments.
 
-use crate::calls::Handed;
-use crate::fault::{Fault, agree};
+use crate::arguments::Handed;
+use crate::fault::{Fault, agree_refused, granted};
 use crate::function::Function;
 use crate::meaning::Meaning;
 use crate::trial::Trial;
@@ -20,68 +20,60 @@ impl<L: Labelling + Copy> Trial<L> {
         let e = self.some_edge();
         let x = self.some_variable();
         let v = self.some_value(x);
-        let judged = self.judge_restrict(&e, x as usize, v);
+        let judged = self.judge_restrict(&e, usize::from(x), v);
         let found = self.table.restrict(e.edge, x, v);
         self.settle(judged, found)
     }
 
-    fn judge_restrict(&self, e: &Handed, x: usize, v: u8) -> Result<Function, u8> {
-        let Some(f) = e.function else {
-            return Err(3);
-        };
-        if x >= self.model.shape.n {
-            return Err(4);
+    fn judge_restrict(&self, e: &Handed, x: usize, v: u8) -> Result<Function, Refusal> {
+        let f = e.function.ok_or(Refusal::NoEdge)?;
+        let shape = &self.model.shape;
+        if x >= shape.n {
+            return Err(Refusal::NoVariable);
         }
-        if v as usize >= self.model.shape.size(x) {
-            return Err(5);
+        if usize::from(v) >= shape.size(x) {
+            return Err(Refusal::NoValue);
         }
-        Ok(f.restricted(&self.model.shape, x, v))
+        Ok(Function::of(shape, |i| f.at(shape.fixed(i, x, v))))
     }
 
     /// Any operation, mostly of the table's radix.
     pub(crate) fn play_apply(&mut self) -> Result<(), Fault> {
-        let mut p = self.model.labels.radix;
-        if self.random.once_in(12) {
-            p = self.random.byte(3).wrapping_add(2);
-        }
+        let p = if self.random.once_in(12) {
+            self.random.byte(3).wrapping_add(2)
+        } else {
+            self.model.labels.radix
+        };
         match self.random.below(6) {
-            0 => self.operate(Minimum::new(p), Meaning::minimum(p)),
-            1 => self.operate(Maximum::new(p), Meaning::maximum(p)),
-            2 => self.operate(CyclicSum::new(p), Meaning::cyclic_sum(p)),
-            3 => self.operate(TruncatedSum::new(p), Meaning::truncated_sum(p)),
+            0 => self.operate(Minimum::new(p), Meaning::of(p, |a, b| a.min(b))),
+            1 => self.operate(Maximum::new(p), Meaning::of(p, |a, b| a.max(b))),
+            2 => self.operate(
+                CyclicSum::new(p),
+                Meaning::of(p, |a, b| a.wrapping_add(b) % p.max(1)),
+            ),
+            3 => self.operate(
+                TruncatedSum::new(p),
+                Meaning::of(p, |a, b| a.wrapping_add(b).min(p.wrapping_sub(1))),
+            ),
             _ => self.operate_filled(p),
         }
     }
 
     // A table operation that is filled with random bytes, at times with too many, too few or too large ones.
     fn operate_filled(&mut self, p: u8) -> Result<(), Fault> {
-        let mut table = match TableOperation::new(p) {
-            Ok(table) => table,
-            Err(refusal) => return agree(
-                "an operation is refused with",
-                0,
-                refusal.number() as usize,
-            ),
-        };
-        let square = (p as usize).wrapping_mul(p as usize);
+        let mut table = granted("an operation is refused with", TableOperation::new(p))?;
+        let square = usize::from(p).wrapping_mul(usize::from(p));
         let long = self.random.once_in(16);
         let large = self.random.once_in(16);
-        let mut bytes = Vec::new(self.heap);
-        for _ in 0..square.wrapping_add(long as usize) {
-            bytes.push(self.random.byte(p.wrapping_add(large as u8)))?;
-        }
-        let expected = if long { 7 } else { too_large(p, &bytes) };
-        let found = number_of(table.fill(bytes.as_slice()));
-        agree(
-            "a filling is refused with",
-            expected as usize,
-            found as usize,
-        )?;
-        let meaning = if expected == 0 {
-            Meaning::table(p, bytes.as_slice())
-        } else {
-            Meaning::blank(p)
-        };
+        let count = square.wrapping_add(usize::from(long));
+        let end = p.wrapping_add(u8::from(large));
+        let bytes: Vec<u8> = (0..count)
+            .map(|_| self.random.byte(end))
+            .collect(self.heap)?;
+        let judged = judge_fill(p, long, &bytes);
+        let found = table.fill(&bytes);
+        agree_refused("a filling is refused with", judged.err(), found.err())?;
+        let meaning = judged.unwrap_or(Meaning::of(p, |_, _| 0));
         self.operate(Ok(table), meaning)
     }
 
@@ -91,15 +83,11 @@ impl<L: Labelling + Copy> Trial<L> {
         made: Result<O, Refusal>,
         meaning: Meaning,
     ) -> Result<(), Fault> {
-        match made {
-            Err(refusal) => agree("an operation is refused with", 0, refusal.number() as usize),
-            Ok(operation) => {
-                if self.random.once_in(3) {
-                    self.operate_turned(operation, meaning)
-                } else {
-                    self.with(&operation, &meaning)
-                }
-            }
+        let operation = granted("an operation is refused with", made)?;
+        if self.random.once_in(3) {
+            self.operate_turned(operation, meaning)
+        } else {
+            self.with(&operation, &meaning)
         }
     }
 
@@ -108,31 +96,27 @@ impl<L: Labelling + Copy> Trial<L> {
         operation: O,
         meaning: Meaning,
     ) -> Result<(), Fault> {
-        let labels = self.model.labels;
-        let g = labels.count().wrapping_add(self.random.once_in(12) as u8);
+        let labels = self.model.labels.count();
+        let g = labels.wrapping_add(u8::from(self.random.once_in(12)));
         let i = self.random.byte(g);
         let j = self.random.byte(g);
         let k = self.random.byte(g);
-        let expected = if i.max(j).max(k) >= labels.count() {
-            6
-        } else if meaning.radix != labels.radix {
-            8
-        } else {
-            0
-        };
+        let judged = self.judge_set(&meaning, i, j, k);
         let mut turned = Turned::new(operation, self.labelling);
-        let found = number_of(turned.set(i, j, k));
-        agree(
-            "a setting is refused with",
-            expected as usize,
-            found as usize,
-        )?;
-        let seen = if expected == 0 {
-            meaning.turned(&labels, i, j, k)
-        } else {
-            meaning
-        };
-        self.with(&turned, &seen)
+        let found = turned.set(i, j, k);
+        agree_refused("a setting is refused with", judged.err(), found.err())?;
+        self.with(&turned, &judged.unwrap_or(meaning))
+    }
+
+    fn judge_set(&self, meaning: &Meaning, i: u8, j: u8, k: u8) -> Result<Meaning, Refusal> {
+        let labels = &self.model.labels;
+        if i.max(j).max(k) >= labels.count() {
+            return Err(Refusal::NoLabel);
+        }
+        if meaning.radix != labels.radix {
+            return Err(Refusal::WrongRadix);
+        }
+        Ok(meaning.turned(labels, i, j, k))
     }
 
     // One apply.
@@ -144,31 +128,29 @@ impl<L: Labelling + Copy> Trial<L> {
         self.settle(judged, found)
     }
 
-    fn judge_apply(&self, meaning: &Meaning, e: &Handed, f: &Handed) -> Result<Function, u8> {
+    fn judge_apply(&self, meaning: &Meaning, e: &Handed, f: &Handed) -> Result<Function, Refusal> {
         let (Some(a), Some(b)) = (e.function, f.function) else {
-            return Err(3);
+            return Err(Refusal::NoEdge);
         };
         if meaning.radix != self.model.labels.radix {
-            return Err(8);
+            return Err(Refusal::WrongRadix);
         }
         Ok(meaning.combined(&self.model.shape, &a, &b))
     }
 }
 
-// The number of a refusal; 0 where there is none.
-fn number_of(answer: Result<(), Refusal>) -> u8 {
-    match answer {
-        Ok(_) => 0,
-        Err(refusal) => refusal.number(),
+// The meaning of a table operation that is filled with some bytes, too many where they are `long`.
+fn judge_fill(p: u8, long: bool, bytes: &[u8]) -> Result<Meaning, Refusal> {
+    if long {
+        return Err(Refusal::WrongLength);
     }
-}
-
-// 5 where a byte is too large, else 0.
-fn too_large(p: u8, bytes: &Vec<u8>) -> u8 {
-    for byte in bytes.iter() {
-        if *byte >= p {
-            return 5;
-        }
+    if bytes.iter().any(|byte| *byte >= p) {
+        return Err(Refusal::NoValue);
     }
-    0
+    Ok(Meaning::of(p, |a, b| {
+        let i = usize::from(p)
+            .wrapping_mul(usize::from(a))
+            .wrapping_add(usize::from(b));
+        bytes.get(i).copied().unwrap_or(0)
+    }))
 }
