@@ -13,9 +13,9 @@ use Rattle.scripts.specs.declared.chosen.Chosen.TheVariants.{Alone, Turned}
 use Rattle.scripts.specs.Meanings.{labelling_meaning, operation_meaning, chosen_meaning}
 
 pub labelling_laws : (l : AnyLabelling) → Laws (labelling_meaning l)
-labelling_laws (Plain l) = plain_laws l.radix l.low l.high
-labelling_laws (Complement l) = even_laws l.radix l.low l.high l.even
-labelling_laws (Cyclic l) = cyclic_laws l.radix l.low l.high
+labelling_laws (Plain l) = plain_laws l.radix.value l.radix.low l.radix.high
+labelling_laws (Complement l) = even_laws l.radix.value l.radix.low l.radix.high l.even
+labelling_laws (Cyclic l) = cyclic_laws l.radix.value l.radix.low l.radix.high
 
 pub operation_closed : (o : AnyOperation) → Closed (operation_meaning o)
 operation_closed (Minimum o) = search rules

@@ -13,9 +13,9 @@ use Rattle.scripts.specs.declared.chosen.Chosen.{Chosen}
 use Rattle.scripts.specs.declared.chosen.Chosen.TheVariants.{Alone, Turned}
 
 abbrev pub labelling_meaning : AnyLabelling → Meaning
-labelling_meaning (Plain l) = plain l.radix
-labelling_meaning (Complement l) = complement l.radix
-labelling_meaning (Cyclic l) = cyclic l.radix
+labelling_meaning (Plain l) = plain l.radix.value
+labelling_meaning (Complement l) = complement l.radix.value
+labelling_meaning (Cyclic l) = cyclic l.radix.value
 
 abbrev pub operation_meaning : AnyOperation → Binary
 operation_meaning (Minimum o) = minimum o.radix.value
