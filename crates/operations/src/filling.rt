@@ -35,7 +35,7 @@ impl TableOperation {
         if !bytes.iter().all(|byte| *byte < radix) {
             return Err(Refusal::NoValue);
         }
-        // Filled in a copy: the check lends no array of a struct with ghost fields.
+        // In a copy: the borrow check does not cover lending this field of a struct with ghost fields (tried).
         let mut filled = self.bytes;
         filled[..bytes.len()].copy_from_slice(bytes);
         self.bytes = filled;
