@@ -133,6 +133,7 @@ impl<L: Labelling> Trial<L> {
     }
 
     fn new_node(&mut self, r: usize, missing: &[Function]) -> Result<(), Fault> {
+        // Not by `Function::of`, since a reading may be refused.
         let mut function = Function::zero();
         for i in 0..self.model.shape.count() {
             let reading = granted("a node is read", self.read(edge_of(r), i))?;
