@@ -1,4 +1,4 @@
--- The walks, tasks and frames of the engine as the theory's, and what a walk gives. Assumes nothing.
+-- The tasks and frames of the engine as the theory's, and what a walk gives. Assumes nothing.
 use Rattle.std.specs.Prelude.{◌≡◌, ℕ, ◌+◌, ◌-◌, ◌*◌, ◌/◌, ◌%◌, ◌<◌, ◌≤◌, List, length, Ok, Err, Result, slice_index, slice_set}
 use Rattle.mvl.specs.Operations.{Binary}
 use Rattle.mvl.specs.Charts.{chart_meaning}
@@ -8,13 +8,11 @@ use Rattle.mvl.specs.declared.refusal.Refusal.TheVariants.{NoRoom}
 use Rattle.diagrams.specs.Functions.{Function}
 use Rattle.diagrams.specs.Diagram.{population}
 use Rattle.diagrams.specs.Build.{Gains, lacking}
-use Rattle.diagrams.specs.Walk.{applies, restricts, meant, Settles, Needs, Walk as Way, Task as Pair}
+use Rattle.diagrams.specs.Walk.{meant, Settles, Needs, Walk as Way, Task as Pair}
 use Rattle.tables.specs.declared.parts.edge.Edge.{Edge}
 use Rattle.tables.specs.declared.parts.node.Node.{Node}
 use Rattle.tables.specs.declared.parts.card.Card.{Card}
 use Rattle.tables.specs.declared.parts.store.Store.{Store}
-use Rattle.tables.specs.declared.engine.task.Walk.{Walk}
-use Rattle.tables.specs.declared.engine.task.Walk.TheVariants.{Apply, Restrict}
 use Rattle.tables.specs.declared.engine.task.Task.{Task}
 use Rattle.tables.specs.declared.engine.frame.Frame.{Frame}
 use Rattle.tables.specs.declared.engine.task.Next.{Next}
@@ -32,10 +30,6 @@ told answers a b = slice_index answers (4 * a + b)
 -- the answers of an operation stand there
 abbrev pub Tabulates : Binary → List ℕ → Type 0
 Tabulates o answers = (a b : ℕ) → a < o.radix → b < o.radix → told answers a b ≡ o.answer a b
-
-abbrev pub walk_of : Walk → Way
-walk_of (Apply answers) = applies (told answers)
-walk_of (Restrict x v) = restricts x v
 
 abbrev pub task_of : Task → Pair
 task_of t = record { left = arrow t.left; right = arrow t.right }

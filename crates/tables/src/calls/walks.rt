@@ -5,23 +5,26 @@ ghost use Rattle.diagrams.specs.Walk.{Fair, TaskOf};
 ghost use Rattle.tables.specs.Cards.{shape_of};
 ghost use Rattle.tables.specs.Edges.{arrow};
 ghost use Rattle.tables.specs.Did.{meaning_of, nodes_of, answer_of, Did};
-ghost use Rattle.tables.specs.Walks.{walk_of, task_of};
+ghost use Rattle.tables.specs.Walks.{task_of};
 ghost use Rattle.tables.specs.Walked.{Walked, Fits};
 
 use crate::calls::holding::Diagrams;
 use crate::engine::answering::answers_of;
+use crate::engine::applying::Applying;
+use crate::engine::restricting::Restricting;
 use crate::engine::running::walk_in;
-use crate::engine::task::{Task, Walk};
+use crate::engine::settling::Walk;
+use crate::engine::task::Task;
 use crate::parts::edge::Edge;
 use mvl::refusal::Refusal;
 use operations::operation::Operation;
 
 impl Diagrams {
     // The edge of a task. Where there is no room for it, what was added is taken back.
-    fn walk(&mut self, walk: Walk, task: Task) -> Result<Edge, Refusal>
-        requires fair { Fair (meaning_of self.old) (shape_of self.old.card) (walk_of walk) }
+    fn walk<W: Walk>(&mut self, walk: &W, task: Task) -> Result<Edge, Refusal>
+        requires fair { Fair (meaning_of self.old) (shape_of self.old.card) (W.way walk.now) }
         requires of { TaskOf (meaning_of self.old) (nodes_of self.old) (task_of task) }
-        ensures { Walked self.old (walk_of walk) task result self.new }
+        ensures { Walked self.old (W.way walk.now) task result self.new }
     {
         let before = self.store.len();
         match walk_in(&mut self.store, &self.chart, &self.card, walk, task) {
@@ -58,7 +61,7 @@ impl Diagrams {
             return Err(why);
         }
         let answers = answers_of(operation);
-        self.walk(Walk::Apply(answers), Task { left: e, right: f })
+        self.walk(&Applying { answers }, Task { left: e, right: f })
     }
 
     pub(crate) fn restrict(&mut self, e: Edge, x: u8, v: u8) -> Result<Edge, Refusal>
@@ -73,6 +76,10 @@ impl Diagrams {
         if v >= self.card.sizes[x as usize] {
             return Err(Refusal::NoValue);
         }
-        self.walk(Walk::Restrict(x, v), Task { left: e, right: e })
+        let walk = Restricting {
+            variable: x,
+            value: v,
+        };
+        self.walk(&walk, Task { left: e, right: e })
     }
 }

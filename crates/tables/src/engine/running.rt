@@ -7,13 +7,13 @@ ghost use Rattle.tables.specs.Cards.{shape_of};
 ghost use Rattle.tables.specs.Records.{nodes_in};
 ghost use Rattle.tables.specs.Stores.{items};
 ghost use Rattle.tables.specs.Sounds.{Whole};
-ghost use Rattle.tables.specs.Walks.{walk_of, task_of, Walks};
+ghost use Rattle.tables.specs.Walks.{task_of, Walks};
 
 use crate::engine::following::child;
 use crate::engine::frame::Frame;
 use crate::engine::making::make_in;
-use crate::engine::settling::settle;
-use crate::engine::task::{Next, Task, Walk};
+use crate::engine::settling::Walk;
+use crate::engine::task::{Next, Task};
 use crate::parts::card::Card;
 use crate::parts::edge::Edge;
 use crate::parts::store::Store;
@@ -21,19 +21,20 @@ use mvl::chart::Chart;
 use mvl::refusal::Refusal;
 
 // The frame at the top makes its next edge, or the node of all its edges, which is then the next edge of the frame below. A frame above
-// another is of a variable below the other's, so that twelve are enough.
-fn run(
+// another is of a variable below the other's, so that twelve are enough. (A walk is a loop over a plain stack, and not recursion, by a rule
+// of the project: its memory is fixed.)
+fn run<W: Walk>(
     store: &mut Store,
     chart: &Chart,
     card: &Card,
-    walk: Walk,
+    walk: &W,
     first: Frame,
 ) -> Result<Edge, Refusal>
     requires whole { Whole chart.now card.now store.old }
-    requires fair { Fair (chart_meaning chart.now) (shape_of card.now) (walk_of walk) }
-    requires needs { Needs (chart_meaning chart.now) (shape_of card.now) (nodes_in (items store.old)) (walk_of walk) (task_of first.task) first.variable }
+    requires fair { Fair (chart_meaning chart.now) (shape_of card.now) (W.way walk.now) }
+    requires needs { Needs (chart_meaning chart.now) (shape_of card.now) (nodes_in (items store.old)) (W.way walk.now) (task_of first.task) first.variable }
     requires none { first.done ≡ 0 }
-    ensures { Walks chart.now card.now store.old (walk_of walk) first.task result store.new }
+    ensures { Walks chart.now card.now store.old (W.way walk.now) first.task result store.new }
 {
     let mut frames = [first; 12];
     let mut k = 0usize;
@@ -41,7 +42,7 @@ fn run(
         let top = frames[k];
         if top.done < card.sizes[top.variable as usize] {
             let next = child(store, chart, top.task, top.variable, top.done);
-            match settle(store, chart, card, walk, next) {
+            match walk.settle(store, chart, card, next) {
                 Next::Settled(r) => {
                     frames[k] = top.with(r);
                 }
@@ -69,19 +70,19 @@ fn run(
 }
 
 /// The edge of a task. Where there is no room for it, nodes may have been added all the same.
-pub(crate) fn walk_in(
+pub(crate) fn walk_in<W: Walk>(
     store: &mut Store,
     chart: &Chart,
     card: &Card,
-    walk: Walk,
+    walk: &W,
     task: Task,
 ) -> Result<Edge, Refusal>
     requires whole { Whole chart.now card.now store.old }
-    requires fair { Fair (chart_meaning chart.now) (shape_of card.now) (walk_of walk) }
+    requires fair { Fair (chart_meaning chart.now) (shape_of card.now) (W.way walk.now) }
     requires of { TaskOf (chart_meaning chart.now) (nodes_in (items store.old)) (task_of task) }
-    ensures { Walks chart.now card.now store.old (walk_of walk) task result store.new }
+    ensures { Walks chart.now card.now store.old (W.way walk.now) task result store.new }
 {
-    match settle(store, chart, card, walk, task) {
+    match walk.settle(store, chart, card, task) {
         Next::Settled(r) => Ok(r),
         Next::Split(y) => run(store, chart, card, walk, Frame::of(task, y)),
     }

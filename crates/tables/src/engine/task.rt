@@ -1,14 +1,6 @@
-//! Walks and their tasks.
+//! The tasks of walks.
 
 use crate::parts::edge::Edge;
-
-/// What is done to the edges of every task: an operation is applied to them, given by its answer for (a, b) at 4 * a + b, or the left one
-/// is restricted to a value of a variable.
-#[derive(Clone, Copy)]
-pub(crate) enum Walk {
-    Apply([u8; 16]),
-    Restrict(u8, u8),
-}
 
 /// The two edges of a task. A restriction has any edge on the right, and never looks at it.
 #[derive(Clone, Copy)]

@@ -6,13 +6,13 @@ use Rattle.tables.proofs.Applying.{sound_back}
 use Rattle.tables.proofs.calls.holding.Diagrams.walk.Goals as goal
 
 pub walk_in-requires : goal.walk_in-requires
-walk_in-requires c = record { whole = whole_of c.args.self.now; fair = c.requires.fair; of = c.requires.of }
+walk_in-requires g c = record { whole = whole_of c.args.self.now; fair = c.requires.fair; of = c.requires.of }
 
 pub invariant_of-self : goal.invariant_of-self
-invariant_of-self c = let w = c.in-Ok.ensures.whole in record { room = w.room; sound = ∣ w.sound ∣₁ }
+invariant_of-self g c = let w = c.in-Ok.ensures.whole in record { room = w.room; sound = ∣ w.sound ∣₁ }
 
 pub cut-requires : goal.cut-requires
-cut-requires c =
+cut-requires g c =
     let short = c.in-Err.ensures in
     record {
       within = omega (arith, grows_long (items c.args.self.now.store) (items c.walk_in.new.store) short.grows, c.len-before.ensures);
@@ -20,7 +20,7 @@ cut-requires c =
     }
 
 pub invariant_of-self-in-Err : goal.invariant_of-self-in-Err
-invariant_of-self-in-Err c =
+invariant_of-self-in-Err g c =
     let short = c.in-Err.ensures in
     let back = c.cut.ensures.items ∙ ap (λ n. take n (items c.walk_in.new.store)) c.len-before.ensures ∙ short.grows in
     record { room = c.cut.ensures.limit ∙ short.whole.room; sound = ∣ sound_back (whole_of c.args.self.now).sound back c.cut.ensures.chained ∣₁ }
