@@ -28,10 +28,10 @@ use Rattle.tables.specs.Chains.{Chained}
 use Rattle.tables.specs.Cards.{shape_of}
 use Rattle.tables.specs.Sounds.{Sound}
 use Rattle.tables.specs.Did.{meaning_of, nodes_of, table_of, answer_of, Did}
-use Rattle.tables.specs.Walks.{told, Tabulates, task_of, walked}
-use Rattle.tables.specs.Walked.{Walked, both, Fits}
+use Rattle.tables.specs.Walks.{told, Tabulates, task_of, walked, Walked}
+use Rattle.tables.specs.Fits.{both, Fits}
 use Rattle.tables.proofs.Refused.{failed, unless_no, unless_yes}
-use Rattle.tables.proofs.Facts.{laws, shape_laws, whole_of, reduced_of, held_few, did_refuse, did_restore, did_gain}
+use Rattle.tables.proofs.Facts.{laws, shape_laws, reduced_of, held_few, did_refuse, did_restore, did_gain}
 use Rattle.tables.proofs.Looping.{start}
 
 -- the records that there were, with chains of their own
@@ -43,19 +43,19 @@ sound_back {m} {s} {xs} sound {ys} {us} same chained =
 -- a query that want of room alone can refuse
 module _ (D : Diagrams) (q : Query) (past : refusal (meaning_of D) (table_of D) (asks q) ≡ room_for (meaning_of D) (table_of D) (asks q)) where
   pub did_walked : (w : Way) (t : Task) {D' : Diagrams} → Fair (meaning_of D) (shape_of D.card) w → TaskOf (meaning_of D) (nodes_of D) (task_of t)
-      → Agree (shape_of D.card) (walked D.chart D.card D.store w t) (asked (meaning_of D) (table_of D) q) → (r : Result Edge Refusal) → Walked D w t r D' → Did D (asks q) (answer_of r) D'
+      → Agree (shape_of D.card) (walked D w t) (asked (meaning_of D) (table_of D) q) → (r : Result Edge Refusal) → Walked D w t r D' → Did D (asks q) (answer_of r) D'
   did_walked w t {D'} fair of agree (Ok r) g =
       let gains = gains_agree agree g.gains in
       let count = gains_count (laws D) (shape_laws D) (reduced_of D) (asked (meaning_of D) (table_of D) q) gains in
-      let few = subst (λ (c : Card). population (nodes_of D') ≤ c.capacity) g.card (held_few D') in
-      did_gain D q g.chart g.card
+      let few = subst (λ (c : Card). population (nodes_of D') ≤ c.capacity) g.grown.card (held_few D') in
+      did_gain D q g.grown.chart g.grown.card
       (past ∙ unless_yes (fits (table_of D) (adding (meaning_of D) (table_of D) (asks q))) NoRoom 0 (le→leb _ D.card.capacity (omega arith))) gains
   did_walked w t {D'} fair of agree (Err k) g =
-      let st = start (record { whole = whole_of D; fair = fair; of = of }) in
-      let lacks = g.lacks in
-      let same = lacking_agree (laws D) (shape_laws D) (reduced_of D) (walked D.chart D.card D.store w t) (asked (meaning_of D) (table_of D) q) (start_ranged st) (start_depends st) agree in
-      subst (λ (k : Refusal). Did D (asks q) (answer_of (Err k)) D') (sym g.is)
-      (did_restore D (asks q) 13 g.chart g.card g.same
+      let st = start D t fair of in
+      let lacks = g.0.lacks in
+      let same = lacking_agree (laws D) (shape_laws D) (reduced_of D) (walked D w t) (asked (meaning_of D) (table_of D) q) (start_ranged st) (start_depends st) agree in
+      subst (λ (k : Refusal). Did D (asks q) (answer_of (Err k)) D') (sym g.0.is)
+      (did_restore D (asks q) 13 g.0.grown.chart g.0.grown.card g.1
       (past ∙ unless_no (fits (table_of D) (adding (meaning_of D) (table_of D) (asks q))) NoRoom 0 (λ t. let room = leb→le _ D.card.capacity t in omega arith)))
 
 -- an edge restricted

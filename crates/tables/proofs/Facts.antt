@@ -15,8 +15,8 @@ use Rattle.tables.specs.declared.parts.card.Card.{Card}
 use Rattle.tables.specs.declared.calls.holding.Diagrams.{Diagrams}
 use Rattle.tables.specs.Records.{nodes_in}
 use Rattle.tables.specs.Cards.{shape_of, capacity_of}
-use Rattle.tables.specs.Stores.{items}
-use Rattle.tables.specs.Sounds.{Whole}
+use Rattle.tables.specs.Stores.{items, heads}
+use Rattle.tables.specs.Sounds.{Sound}
 use Rattle.tables.specs.Did.{meaning_of, nodes_of, table_of, Did}
 use Rattle.tables.proofs.Unique.{sound_out}
 use Rattle.tables.proofs.CardFacts.{shape_laws_of}
@@ -29,11 +29,11 @@ module _ (D : Diagrams) where
   pub shape_laws : ShapeLaws (shape_of D.card)
   shape_laws = shape_laws_of D.card
 
-  pub whole_of : Whole D.chart D.card D.store
-  whole_of = record { room = D.room; sound = sound_out D.sound }
+  pub sound_of : Sound (meaning_of D) (shape_of D.card) (items D.store) (heads D.store)
+  sound_of = sound_out D.sound
 
   pub reduced_of : Reduced (meaning_of D) (shape_of D.card) (nodes_of D)
-  reduced_of = whole_of.sound.reduced
+  reduced_of = sound_of.reduced
 
   -- it has no more nodes than it may
   pub held_few : population (nodes_of D) ≤ D.card.capacity

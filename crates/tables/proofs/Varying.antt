@@ -1,12 +1,12 @@
 -- The diagram of a function of one variable: one node, with the edge of a constant for each value. Assumes nothing.
-use Rattle.std.proofs.Common.{◌≡◌, ℕ, ◌+◌, ◌-◌, ◌<◌, ◌≤◌, cond, T, eqb, ltb, leb, List, get_or, Ok, Err, Result, sym, refl, ap, ◌∙◌, subst, arith, le→leb, ltb→lt, lt→ltb, leb→le}
+use Rattle.std.proofs.Common.{◌≡◌, ℕ, ◌+◌, ◌-◌, ◌<◌, ◌≤◌, cond, T, eqb, ltb, leb, List, get_or, Ok, Err, Result, sym, refl, ap, ◌∙◌, subst, subst₂, arith, le→leb, ltb→lt, lt→ltb, leb→le}
 use Rattle.mvl.specs.declared.refusal.Refusal.{Refusal}
 use Rattle.mvl.specs.declared.refusal.Refusal.TheVariants.{NoVariable, NoValue, TooWide, NoRoom}
 use Rattle.mvl.specs.Tests.{cond_cases}
 use Rattle.diagrams.specs.Shape.{Assignment}
 use Rattle.diagrams.specs.Functions.{Ranged, Depends}
 use Rattle.diagrams.specs.Diagram.{Edge as Arrow, population, value, level, Of, reaches}
-use Rattle.diagrams.specs.Make.{Makes}
+use Rattle.diagrams.specs.Make.{Asks, Makes}
 use Rattle.diagrams.specs.Build.{Gains, Wanted, constant_edge}
 use Rattle.diagrams.specs.Calls.{Query, asks, variable, literal, asked}
 use Rattle.diagrams.specs.Refusals.{unless, refusal, fits, adding, room_for, Room}
@@ -25,17 +25,17 @@ use Rattle.tables.specs.Edges.{arrow, arrows}
 use Rattle.tables.specs.Cards.{shape_of}
 use Rattle.tables.specs.Stores.{items}
 use Rattle.tables.specs.Finds.{Filled}
-use Rattle.tables.specs.Makes.{AsksNode, MakesNode}
+use Rattle.tables.specs.Makes.{MakesNode}
 use Rattle.tables.specs.Did.{meaning_of, nodes_of, table_of, answer_of, Did}
 use Rattle.tables.proofs.Refused.{unless_no, unless_yes}
 use Rattle.tables.proofs.Appending.{population_is}
-use Rattle.tables.proofs.Facts.{laws, shape_laws, reduced_of, held_few, did_refuse, did_restore, did_gain}
+use Rattle.tables.proofs.Facts.{laws, shape_laws, reduced_of, held_few, did_refuse, did_gain}
 
 -- a query that asks for f of the value of x
 module _ (D : Diagrams) (q : Query) (x : ℕ) (hx : x < D.card.n) (f : ℕ → ℕ) (low : (i : ℕ) → i < get_or D.card.sizes x 0 → f i < D.chart.radix)
     (is : (a : ℕ → ℕ) → asked (meaning_of D) (table_of D) q a ≡ f (a x))
     (ns : List Edge) (filled : Filled (λ i. constant_edge (meaning_of D) (f i)) (get_or D.card.sizes x 0) ns) where
-  single_asks : AsksNode (meaning_of D) (shape_of D.card) (items D.store) x ns
+  single_asks : Asks (meaning_of D) (shape_of D.card) (nodes_of D) x (arrows ns)
   single_asks = record {
     within = hx;
     of = λ i h. subst (Of (meaning_of D) (nodes_of D)) (sym (filled.used i h)) (constant_of (laws D) (nodes_of D) (f i) (low i h));
@@ -70,14 +70,13 @@ module _ (D : Diagrams) (q : Query) (x : ℕ) (hx : x < D.card.n) (f : ℕ → �
   module _ (granted : Room (meaning_of D) (table_of D) (asks q) → refusal (meaning_of D) (table_of D) (asks q) ≡ 0)
       (full : (Room (meaning_of D) (table_of D) (asks q) → ⊥) → refusal (meaning_of D) (table_of D) (asks q) ≡ 14) where
     -- what is made is what was asked
-    single_did : {D' : Diagrams} → D'.chart ≡ D.chart → D'.card ≡ D.card → (r : Result Edge Refusal)
-        → MakesNode (meaning_of D) (shape_of D.card) (items D.store) x ns D.card.capacity r (items D'.store) → Did D (asks q) (answer_of r) D'
-    single_did {D'} chart card (Ok e) g =
+    single_did : {D' : Diagrams} (r : Result Edge Refusal) → MakesNode D x ns r D' → Did D (asks q) (answer_of r) D'
+    single_did {D'} (Ok e) g =
         let gains = single_gains D' {e = arrow e} g.makes in
         let count = gains_count (laws D) (shape_laws D) (reduced_of D) (asked (meaning_of D) (table_of D) q) gains in
-        let few = subst (λ (c : Card). population (nodes_of D') ≤ c.capacity) card (held_few D') in
-        did_gain D q chart card (granted (omega arith)) gains
-    single_did {D'} chart card (Err k) g =
+        let few = subst (λ (c : Card). population (nodes_of D') ≤ c.capacity) g.grown.card (held_few D') in
+        did_gain D q g.grown.chart g.grown.card (granted (omega arith)) gains
+    single_did {D'} (Err k) g =
         let wanted : Wanted (meaning_of D) (shape_of D.card) (nodes_of D) (asked (meaning_of D) (table_of D) q) x (arrows ns) = record {
           variable_within = hx;
           of = single_asks.of;
@@ -91,8 +90,8 @@ module _ (D : Diagrams) (q : Query) (x : ℕ) (hx : x < D.card.n) (f : ℕ → �
         (keeps_refl (shape_of D.card) (nodes_of D)) (λ p h new. absurd (new h)) wanted in
         let count = population_is (items D.store) in
         let over = g.full in
-        subst (λ (k : Refusal). Did D (asks q) (answer_of (Err k)) D') (sym g.is)
-        (did_restore D (asks q) 13 chart card g.same (full (λ room. omega arith)))
+        subst₂ (λ (k : Refusal) (D' : Diagrams). Did D (asks q) (answer_of (Err k)) D') (sym g.is) (sym g.same)
+        (did_refuse D (asks q) 13 (full (λ room. omega arith)))
 
 module _ (D : Diagrams) (q : Query) where
   no_room : (Room (meaning_of D) (table_of D) (asks q) → ⊥) → room_for (meaning_of D) (table_of D) (asks q) ≡ 14
@@ -119,11 +118,10 @@ module _ (D : Diagrams) (x : ℕ) where
         (λ t. let l = leb→le (get_or D.card.sizes x 0) D.chart.radix t in omega arith))
 
     module _ (small : get_or D.card.sizes x 0 ≤ D.chart.radix) {ns : List Edge} (filled : Filled (constant_edge (meaning_of D)) (get_or D.card.sizes x 0) ns) where
-      pub variable_asks : AsksNode (meaning_of D) (shape_of D.card) (items D.store) x ns
+      pub variable_asks : Asks (meaning_of D) (shape_of D.card) (nodes_of D) x (arrows ns)
       variable_asks = single_asks D (variable x) x hx (λ i. i) (λ i h. omega arith) (λ a. refl) ns filled
 
-      pub variable_did : {D' : Diagrams} → D'.chart ≡ D.chart → D'.card ≡ D.card → (r : Result Edge Refusal)
-          → MakesNode (meaning_of D) (shape_of D.card) (items D.store) x ns D.card.capacity r (items D'.store) → Did D (asks (variable x)) (answer_of r) D'
+      pub variable_did : {D' : Diagrams} (r : Result Edge Refusal) → MakesNode D x ns r D' → Did D (asks (variable x)) (answer_of r) D'
       variable_did =
           single_did D (variable x) x hx (λ i. i) (λ i h. omega arith) (λ a. refl) ns filled
           (λ room. granted_from (meaning_of D) (table_of D) (asks (variable x)) (hx, small, room))
@@ -156,11 +154,10 @@ module _ (D : Diagrams) (x v : ℕ) where
 
     module _ (hv : v < get_or D.card.sizes x 0) {ns : List Edge}
         (filled : Filled (λ i. constant_edge (meaning_of D) (cond (eqb i v) (D.chart.radix - 1) 0)) (get_or D.card.sizes x 0) ns) where
-      pub literal_asks : AsksNode (meaning_of D) (shape_of D.card) (items D.store) x ns
+      pub literal_asks : Asks (meaning_of D) (shape_of D.card) (nodes_of D) x (arrows ns)
       literal_asks = single_asks D (literal x v) x hx chosen chosen_low (λ a. refl) ns filled
 
-      pub literal_did : {D' : Diagrams} → D'.chart ≡ D.chart → D'.card ≡ D.card → (r : Result Edge Refusal)
-          → MakesNode (meaning_of D) (shape_of D.card) (items D.store) x ns D.card.capacity r (items D'.store) → Did D (asks (literal x v)) (answer_of r) D'
+      pub literal_did : {D' : Diagrams} (r : Result Edge Refusal) → MakesNode D x ns r D' → Did D (asks (literal x v)) (answer_of r) D'
       literal_did =
           single_did D (literal x v) x hx chosen chosen_low (λ a. refl) ns filled
           (λ room. granted_from (meaning_of D) (table_of D) (asks (literal x v)) (hx, hv, room))

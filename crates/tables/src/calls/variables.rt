@@ -4,7 +4,6 @@ ghost use Rattle.diagrams.specs.Calls.{asks, variable as varying, literal as cho
 ghost use Rattle.tables.specs.Did.{answer_of, Did};
 
 use crate::calls::holding::Diagrams;
-use crate::engine::making::make_in;
 use crate::engine::rows::{chosen, constants};
 use crate::parts::edge::Edge;
 use mvl::refusal::Refusal;
@@ -21,7 +20,7 @@ impl Diagrams {
             return Err(Refusal::TooWide);
         }
         let edges = constants(&self.chart, size);
-        make_in(&mut self.store, &self.chart, &self.card, x, edges)
+        self.make(x, edges)
     }
 
     pub(crate) fn literal(&mut self, x: u8, v: u8) -> Result<Edge, Refusal>
@@ -35,6 +34,6 @@ impl Diagrams {
             return Err(Refusal::NoValue);
         }
         let edges = chosen(&self.chart, v, size);
-        make_in(&mut self.store, &self.chart, &self.card, x, edges)
+        self.make(x, edges)
     }
 }

@@ -5,14 +5,13 @@ ghost use Rattle.diagrams.specs.Walk.{Fair, TaskOf};
 ghost use Rattle.tables.specs.Cards.{shape_of};
 ghost use Rattle.tables.specs.Edges.{arrow};
 ghost use Rattle.tables.specs.Did.{meaning_of, nodes_of, answer_of, Did};
-ghost use Rattle.tables.specs.Walks.{task_of};
-ghost use Rattle.tables.specs.Walked.{Walked, Fits};
+ghost use Rattle.tables.specs.Walks.{task_of, Walked};
+ghost use Rattle.tables.specs.Fits.{Fits};
 
 use crate::calls::holding::Diagrams;
 use crate::engine::answering::answers_of;
 use crate::engine::applying::Applying;
 use crate::engine::restricting::Restricting;
-use crate::engine::running::walk_in;
 use crate::engine::settling::Walk;
 use crate::engine::task::Task;
 use crate::parts::edge::Edge;
@@ -27,13 +26,11 @@ impl Diagrams {
         ensures { Walked self.old (W.way walk.now) task result self.new }
     {
         let before = self.store.len();
-        match walk_in(&mut self.store, &self.chart, &self.card, walk, task) {
-            Ok(r) => Ok(r),
-            Err(why) => {
-                self.store.cut(before);
-                Err(why)
-            }
+        let walked = self.try_walk(walk, task);
+        if walked.is_err() {
+            self.store.cut(before);
         }
+        walked
     }
 
     // Refuses an edge that is none of the table, and then another radix.
@@ -57,9 +54,7 @@ impl Diagrams {
     ) -> Result<Edge, Refusal>
         ensures { Did self.old (asks (applying (O.meaning operation.now).radix (O.meaning operation.now).answer (arrow e) (arrow f))) (answer_of result) self.new }
     {
-        if let Err(why) = self.fit(operation.radix(), e, f) {
-            return Err(why);
-        }
+        self.fit(operation.radix(), e, f)?;
         let answers = answers_of(operation);
         self.walk(&Applying { answers }, Task { left: e, right: f })
     }

@@ -3,13 +3,11 @@
 ghost use Rattle.diagrams.specs.Walk.{applies};
 ghost use Rattle.tables.specs.Walks.{told};
 
+use crate::calls::holding::Diagrams;
 use crate::engine::following::{level, worth};
 use crate::engine::rows::constant_edge;
 use crate::engine::settling::Walk;
 use crate::engine::task::{Next, Task};
-use crate::parts::card::Card;
-use crate::parts::store::Store;
-use mvl::chart::Chart;
 
 /// The operation's answer for (a, b) is at 4 * a + b.
 #[derive(Clone, Copy)]
@@ -21,13 +19,15 @@ impl Walk for Applying {
     ghost way = { λ w. applies (told w.answers) };
 
     // Two terminals give a constant, and else the topmost target's variable is next.
-    fn settle(&self, store: &Store, chart: &Chart, card: &Card, task: Task) -> Next {
-        let top = level(store, card, task.left).min(level(store, card, task.right));
-        if top < card.n {
-            return Next::Split(card.order[top]);
+    fn settle(&self, diagrams: &Diagrams, task: Task) -> Next {
+        let left = level(&diagrams.store, &diagrams.card, task.left);
+        let right = level(&diagrams.store, &diagrams.card, task.right);
+        let top = left.min(right);
+        if top < diagrams.card.n {
+            return Next::Split(diagrams.card.order[top]);
         }
-        let a = worth(chart, task.left);
-        let b = worth(chart, task.right);
-        Next::Settled(constant_edge(chart, self.answers[(4 * a + b) as usize]))
+        let a = worth(&diagrams.chart, task.left);
+        let b = worth(&diagrams.chart, task.right);
+        Next::Settled(constant_edge(&diagrams.chart, self.answers[(4 * a + b) as usize]))
     }
 }

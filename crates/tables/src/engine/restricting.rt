@@ -2,12 +2,10 @@
 
 ghost use Rattle.diagrams.specs.Walk.{restricts};
 
+use crate::calls::holding::Diagrams;
 use crate::engine::following::{follow, level};
 use crate::engine::settling::Walk;
 use crate::engine::task::{Next, Task};
-use crate::parts::card::Card;
-use crate::parts::store::Store;
-use mvl::chart::Chart;
 
 /// The variable, and its value.
 #[derive(Clone, Copy)]
@@ -20,11 +18,17 @@ impl Walk for Restricting {
     ghost way = { λ w. restricts w.variable w.value };
 
     // An edge that leads to a node of the variable or below it is followed, and else its target's variable is next.
-    fn settle(&self, store: &Store, chart: &Chart, card: &Card, task: Task) -> Next {
-        let top = level(store, card, task.left);
-        if top < card.place[self.variable as usize] as usize {
-            return Next::Split(card.order[top]);
+    fn settle(&self, diagrams: &Diagrams, task: Task) -> Next {
+        let top = level(&diagrams.store, &diagrams.card, task.left);
+        if top < diagrams.card.place[self.variable as usize] as usize {
+            return Next::Split(diagrams.card.order[top]);
         }
-        Next::Settled(follow(store, chart, self.variable, self.value, task.left))
+        Next::Settled(follow(
+            &diagrams.store,
+            &diagrams.chart,
+            self.variable,
+            self.value,
+            task.left,
+        ))
     }
 }

@@ -1,26 +1,25 @@
 use Rattle.std.proofs.Common.{take, ap, ◌∙◌, arith}
-use Rattle.tables.specs.Stores.{items}
-use Rattle.tables.proofs.Facts.{whole_of}
-use Rattle.tables.proofs.Looping.{grows_long}
+use Rattle.mvl.specs.Charts.{chart_meaning}
+use Rattle.tables.specs.Cards.{shape_of}
+use Rattle.tables.specs.Stores.{items, heads}
+use Rattle.tables.specs.Sounds.{Sound}
+use Rattle.tables.proofs.Facts.{sound_of}
+use Rattle.tables.proofs.Looping.{grows_long, grown_same, walks_grown}
 use Rattle.tables.proofs.Applying.{sound_back}
 use Rattle.tables.proofs.calls.holding.Diagrams.walk.Goals as goal
 
-pub walk_in-requires : goal.walk_in-requires
-walk_in-requires g c = record { whole = whole_of c.args.self.now; fair = c.requires.fair; of = c.requires.of }
-
-pub invariant_of-self : goal.invariant_of-self
-invariant_of-self g c = let w = c.in-Ok.ensures.whole in record { room = w.room; sound = ∣ w.sound ∣₁ }
-
 pub cut-requires : goal.cut-requires
 cut-requires g c =
-    let short = c.in-Err.ensures in
-    record {
-      within = omega (arith, grows_long (items c.args.self.now.store) (items c.walk_in.new.store) short.grows, c.len-before.ensures);
-      chained = short.whole.sound.chained;
-    }
+    let D = c.args.self.now in
+    let D' = c.try_walk-walked.new.self in
+    let grown = walks_grown (g.W.Walk.way c.args.walk.now) c.args.task c.try_walk-walked.result c.try_walk-walked.ensures in
+    record { within = omega (arith, grows_long (items D.store) (items D'.store) grown.grows, c.len-before.ensures); chained = (sound_of D').chained }
 
-pub invariant_of-self-in-Err : goal.invariant_of-self-in-Err
-invariant_of-self-in-Err g c =
-    let short = c.in-Err.ensures in
-    let back = c.cut.ensures.items ∙ ap (λ n. take n (items c.walk_in.new.store)) c.len-before.ensures ∙ short.grows in
-    record { room = c.cut.ensures.limit ∙ short.whole.room; sound = ∣ sound_back (whole_of c.args.self.now).sound back c.cut.ensures.chained ∣₁ }
+pub invariant_of-self : goal.invariant_of-self
+invariant_of-self g c =
+    let D = c.args.self.now in
+    let D' = c.try_walk-walked.new.self in
+    let grown = walks_grown (g.W.Walk.way c.args.walk.now) c.args.task c.try_walk-walked.result c.try_walk-walked.ensures in
+    let back = c.cut.ensures.items ∙ ap (λ n. take n (items D'.store)) c.len-before.ensures ∙ grown.grows in
+    let sound = grown_same grown (λ chart card. Sound (chart_meaning chart) (shape_of card) (items D.store) (heads D.store)) (sound_of D) in
+    record { room = c.cut.ensures.limit ∙ D'.room; sound = ∣ sound_back sound back c.cut.ensures.chained ∣₁ }
