@@ -9,7 +9,8 @@ pub(crate) struct Task {
     pub(crate) right: Edge,
 }
 
-/// What a task comes to: an edge that serves for it, or the variable of the node that it needs.
+/// What a task comes to: an edge that serves for it, or the variable of the node that it needs. (No `Result` and no `ControlFlow`: neither is an
+/// error, or goes on with its value, and these names say which is which.)
 #[derive(Clone, Copy)]
 pub(crate) enum Next {
     Settled(Edge),
