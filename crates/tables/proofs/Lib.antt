@@ -1,4 +1,5 @@
 pub mod Refused
+pub mod Testing
 pub mod ChartFacts
 pub mod Goals
 pub mod Same

@@ -10,4 +10,4 @@ pub mod Makes
 pub mod Did
 pub mod Evaluates
 pub mod Walks
-pub mod Fits
+pub mod Tested

@@ -5,5 +5,6 @@ pub(crate) mod evaluating;
 pub(crate) mod holding;
 pub mod reading;
 pub mod table;
+pub(crate) mod testing;
 pub(crate) mod variables;
 pub(crate) mod walks;

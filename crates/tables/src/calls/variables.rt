@@ -12,10 +12,7 @@ impl Diagrams {
     pub(crate) fn variable(&mut self, x: u8) -> Result<Edge, Refusal>
         ensures { Did self.old (asks (varying x)) (answer_of result) self.new }
     {
-        if x as usize >= self.card.n {
-            return Err(Refusal::NoVariable);
-        }
-        let size = self.card.sizes[x as usize];
+        let size = self.size(x)?;
         if size > self.chart.radix {
             return Err(Refusal::TooWide);
         }
@@ -26,13 +23,7 @@ impl Diagrams {
     pub(crate) fn literal(&mut self, x: u8, v: u8) -> Result<Edge, Refusal>
         ensures { Did self.old (asks (choosing x v)) (answer_of result) self.new }
     {
-        if x as usize >= self.card.n {
-            return Err(Refusal::NoVariable);
-        }
-        let size = self.card.sizes[x as usize];
-        if v >= size {
-            return Err(Refusal::NoValue);
-        }
+        let size = self.size_above(x, v)?;
         let edges = chosen(&self.chart, v, size);
         self.make(x, edges)
     }

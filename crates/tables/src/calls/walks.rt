@@ -6,7 +6,6 @@ ghost use Rattle.tables.specs.Cards.{shape_of};
 ghost use Rattle.tables.specs.Edges.{arrow};
 ghost use Rattle.tables.specs.Did.{meaning_of, nodes_of, answer_of, Did};
 ghost use Rattle.tables.specs.Walks.{task_of, Walked};
-ghost use Rattle.tables.specs.Fits.{Fits};
 
 use crate::calls::holding::Diagrams;
 use crate::engine::answering::answers_of;
@@ -33,19 +32,6 @@ impl Diagrams {
         walked
     }
 
-    // Refuses an edge that is none of the table, and then another radix.
-    fn fit(&self, radix: u8, e: Edge, f: Edge) -> Result<(), Refusal>
-        ensures { Fits self.now radix e f result }
-    {
-        if !self.has(e) || !self.has(f) {
-            return Err(Refusal::NoEdge);
-        }
-        if radix != self.chart.radix {
-            return Err(Refusal::WrongRadix);
-        }
-        Ok(())
-    }
-
     pub(crate) fn apply<O: Operation>(
         &mut self,
         operation: &O,
@@ -65,12 +51,7 @@ impl Diagrams {
         if !self.has(e) {
             return Err(Refusal::NoEdge);
         }
-        if x as usize >= self.card.n {
-            return Err(Refusal::NoVariable);
-        }
-        if v >= self.card.sizes[x as usize] {
-            return Err(Refusal::NoValue);
-        }
+        self.size_above(x, v)?;
         let walk = Restricting {
             variable: x,
             value: v,

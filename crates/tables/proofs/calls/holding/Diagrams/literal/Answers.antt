@@ -1,15 +1,18 @@
-use Rattle.std.proofs.Common.{arith}
-use Rattle.tables.proofs.Varying.{literal_unknown, literal_large, literal_asks, literal_did}
+use Rattle.std.proofs.lemmas.Result.{err_from_is_err_and}
+use Rattle.tables.proofs.Varying.{literal_unfit, literal_small, literal_asks, literal_did}
 use Rattle.tables.proofs.calls.holding.Diagrams.literal.Goals as goal
 
-pub returns-then-x-self : goal.returns-then-x-self
-returns-then-x-self c = literal_unknown c.args.self.now c.args.x c.args.v (omega arith)
+pub returns-in_err-size : goal.returns-in_err-size
+returns-in_err-size c =
+    let p = err_from_is_err_and c.from_residual.result c.from_residual.ensures.1 in
+    rw (p.1, p.2) (literal_unfit c.args.self.now c.args.x c.args.v c.in_err-size.field-0.0 c.in_err-size.ensures.tested)
 
-pub returns-then-v-size : goal.returns-then-v-size
-returns-then-v-size c = literal_large c.args.self.now c.args.x c.args.v (omega arith) (omega arith)
+pub chosen-edges-requires : goal.chosen-edges-requires
+chosen-edges-requires c = literal_small c.args.self.now c.args.x c.args.v c.in_ok-size.ensures.tested c.in_ok-size.ensures.size
 
 pub make-requires : goal.make-requires
-make-requires c = literal_asks c.args.self.now c.args.x c.args.v (omega arith) (omega arith) c.chosen-edges.ensures
+make-requires c = literal_asks c.args.self.now c.args.x c.args.v c.in_ok-size.ensures.tested c.in_ok-size.ensures.size c.chosen-edges.ensures
 
 pub returns : goal.returns
-returns c = literal_did c.args.self.now c.args.x c.args.v (omega arith) (omega arith) c.chosen-edges.ensures c.make.result c.make.ensures
+returns c =
+    literal_did c.args.self.now c.args.x c.args.v c.in_ok-size.ensures.tested c.in_ok-size.ensures.size c.chosen-edges.ensures c.make.result c.make.ensures

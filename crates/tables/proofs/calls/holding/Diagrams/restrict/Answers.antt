@@ -1,22 +1,21 @@
-use Rattle.std.proofs.Common.{arith}
-use Rattle.tables.proofs.Applying.{restrict_strange, restrict_unknown, restrict_large, restrict_of, restrict_did}
+use Rattle.std.proofs.lemmas.Result.{err_from_is_err_and}
+use Rattle.tables.proofs.Testing.{value_there}
+use Rattle.tables.proofs.Applying.{restrict_strange, restrict_unfit, restrict_of, restrict_did}
 use Rattle.tables.proofs.calls.holding.Diagrams.restrict.Goals as goal
 
 pub returns-then-not-has : goal.returns-then-not-has
 returns-then-not-has c = restrict_strange c.args.self.now c.args.e c.args.x c.args.v c.if-not-has.ensures
 
-pub returns-then-x-self : goal.returns-then-x-self
-returns-then-x-self c = restrict_unknown c.args.self.now c.args.e c.args.x c.args.v c.if-not-has.ensures (omega arith)
-
-pub returns-then-v-self : goal.returns-then-v-self
-returns-then-v-self c = restrict_large c.args.self.now c.args.e c.args.x c.args.v c.if-not-has.ensures (omega arith) (omega arith)
+pub returns-in_err-size_above : goal.returns-in_err-size_above
+returns-in_err-size_above c =
+    let p = err_from_is_err_and c.from_residual.result c.from_residual.ensures.1 in
+    rw (p.1, p.2) (restrict_unfit c.args.self.now c.args.e c.args.x c.args.v c.if-not-has.ensures c.in_err-size_above.field-0.0 c.in_err-size_above.ensures.tested)
 
 pub walk-requires : goal.walk-requires
-walk-requires c = record {
-  fair = (omega arith, omega arith);
-  of = restrict_of c.args.self.now c.args.e c.args.x c.args.v c.if-not-has.ensures (omega arith) (omega arith);
-}
+walk-requires c =
+    let D = c.args.self.now in
+    record { fair = value_there D.card c.args.x c.args.v c.in_ok-size_above.ensures.tested; of = restrict_of D c.args.e c.args.x c.args.v c.if-not-has.ensures }
 
 pub returns : goal.returns
 returns c =
-    restrict_did c.args.self.now c.args.e c.args.x c.args.v c.if-not-has.ensures (omega arith) (omega arith) c.walk.result c.walk.ensures
+    restrict_did c.args.self.now c.args.e c.args.x c.args.v c.if-not-has.ensures c.in_ok-size_above.ensures.tested c.walk.result c.walk.ensures
