@@ -11,3 +11,4 @@ pub mod Did
 pub mod Evaluates
 pub mod Walks
 pub mod Tested
+pub mod Does
