@@ -1,5 +1,5 @@
 -- A node that is looked up or added is the one that was to be made. Assumes nothing.
-use Rattle.std.proofs.Common.{◌≡◌, ℕ, ◌+◌, ◌<◌, ◌≤◌, true, false, List, [], ◌∷◌, ◌++◌, length, get_or, set, Some, None, sym, ◌∙◌, subst, subst₂, ⊎_elim, arith}
+use Rattle.std.proofs.Common.{◌≡◌, ℕ, ◌+◌, ◌<◌, ◌≤◌, true, false, List, [], ◌∷◌, ◌++◌, length, get_or, set, Some, None, sym, ap, ◌∙◌, subst, subst₂, ⊎_elim, arith}
 use Rattle.std.proofs.lemmas.Bool.{cases_lt}
 use Rattle.mvl.specs.Labels.{Meaning, inverse, Laws}
 use Rattle.diagrams.specs.Shape.{Shape, ShapeLaws}
@@ -29,9 +29,9 @@ module _ {m : Meaning} (l : Laws m) {s : Shape} (sl : ShapeLaws s) {xs : List No
   made_alike all = makes_alike l sl sound.reduced x asks.within (arrows es) asks.of asks.below (alike_is all)
 
   -- the edges ns were turned by the inverse of the first label
-  module _ {k : ℕ} {ns : List Edge} (back : k ≡ inverse m (arrows es 0).label) (turns : Filled (λ i. turned m k (arrows es i)) (s.size x) ns) where
+  module _ {label k : ℕ} {ns : List Edge} (first : label ≡ (arrows es 0).label) (back : k ≡ inverse m label) (turns : Filled (λ i. turned m k (arrows es i)) (s.size x) ns) where
     filled : Filled (normal m (arrows es)) (s.size x) ns
-    filled = subst (λ (j : ℕ). Filled (λ i. turned m j (arrows es i)) (s.size x) ns) back turns
+    filled = subst (λ (j : ℕ). Filled (λ i. turned m j (arrows es i)) (s.size x) ns) (back ∙ ap (inverse m) first) turns
 
     found_made : (r : ℕ) → Finds xs x ns (Some r) → Made m s (nodes_in xs) x (arrows es) r
     found_made r (h, t) = record {

@@ -150,9 +150,6 @@ module _ (D : Diagrams) (x v : ℕ) where
   chosen_low i h = let two = (laws D).radix_low in cond_cases (eqb i v) (D.chart.radix - 1) 0 (λ w. w < D.chart.radix) (λ _. omega arith) (λ _. omega arith)
 
   module _ (known : no_value D.card x v ≡ 0) {size : ℕ} (is : size ≡ get_or D.card.sizes x 0) where
-    pub literal_small : size ≤ 4
-    literal_small = let high = D.card.sized x (value_there D.card x v known).0 in omega (arith, high.1)
-
     module _ {ns : List Edge} (filled : Filled (λ i. constant_edge (meaning_of D) (cond (eqb i v) (D.chart.radix - 1) 0)) size ns) where
       literal_row : Filled (λ i. constant_edge (meaning_of D) (cond (eqb i v) (D.chart.radix - 1) 0)) (get_or D.card.sizes x 0) ns
       literal_row = subst (λ (n : ℕ). Filled (λ i. constant_edge (meaning_of D) (cond (eqb i v) (D.chart.radix - 1) 0)) n ns) is filled

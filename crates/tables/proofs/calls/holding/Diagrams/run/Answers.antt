@@ -1,23 +1,18 @@
-use Rattle.std.proofs.Common.{refl, arith}
-use Rattle.std.proofs.lemmas.Result.{err_from_is_err_and}
-use Rattle.tables.proofs.Looping.{begins, top_few, left_leads, right_leads, next_task, fill_again, fill_less, push_room, push_again, push_less, full_asks, full_short, full_gained, below_few, pop_again, pop_less}
+use Rattle.std.proofs.Common.{refl, rules, arith}
+use Rattle.tables.proofs.Looping.{begins, left_leads, right_leads, next_task, fill_again, fill_less, push_room, push_again, push_less, full_asks, full_short, full_gained, below_few, pop_again, pop_less}
 use Rattle.tables.proofs.calls.holding.Diagrams.run.Goals as goal
 
 pub loop-self-init : goal.loop-self-init
 loop-self-init g c = begins c.args.self.now c.requires.fair _ c.requires.needs (record { task = refl; variable = refl; done = c.requires.none }) refl
 
-pub child-next-requires : goal.child-next-requires
-child-next-requires g c =
-    let D = c.loop-self.self in
-    let inv = c.loop-self.invariant in
-    let less = c.if-top-self.true in
-    record { value = top_few D inv less; left = left_leads D inv less; right = right_leads D inv less }
+pub child-next-requires-clause-left : goal.child-next-requires-clause-left
+child-next-requires-clause-left g c = left_leads c.loop-self.self c.loop-self.invariant c.if-top-self.true
 
-pub settle-requires : goal.settle-requires
-settle-requires g c =
-    let D = c.loop-self.self in
-    let inv = c.loop-self.invariant in
-    record { fair = inv.start.fair; of = next_task D inv c.if-top-self.true c.child-next.result c.child-next.ensures }
+pub child-next-requires-clause-right : goal.child-next-requires-clause-right
+child-next-requires-clause-right g c = right_leads c.loop-self.self c.loop-self.invariant c.if-top-self.true
+
+pub settle-requires-clause-of : goal.settle-requires-clause-of
+settle-requires-clause-of g c = next_task c.loop-self.self c.loop-self.invariant c.if-top-self.true c.child-next.result c.child-next.ensures
 
 pub loop-self-smaller-in-Settled : goal.loop-self-smaller-in-Settled
 loop-self-smaller-in-Settled g c =
@@ -43,9 +38,7 @@ pub make-requires : goal.make-requires
 make-requires g c = full_asks c.loop-self.self c.loop-self.invariant c.if-top-self.false
 
 pub returns-in_err-made : goal.returns-in_err-made
-returns-in_err-made g c =
-    let p = err_from_is_err_and c.from_residual.result c.from_residual.ensures.1 in
-    rw (p.1, p.2) (full_short c.loop-self.self c.loop-self.invariant c.if-top-self.false c.in_err-made.ensures)
+returns-in_err-made g c = search (rules, full_short c.loop-self.self c.loop-self.invariant c.if-top-self.false c.in_err-made.ensures)
 
 pub returns-then-k-eq0 : goal.returns-then-k-eq0
 returns-then-k-eq0 g c = full_gained c.loop-self.self c.loop-self.invariant c.if-top-self.false c.in_ok-made.ensures c.if-k-eq0.true

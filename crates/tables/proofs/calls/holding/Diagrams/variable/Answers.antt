@@ -1,12 +1,9 @@
-use Rattle.std.proofs.Common.{arith}
-use Rattle.std.proofs.lemmas.Result.{err_from_is_err_and}
+use Rattle.std.proofs.Common.{rules, arith}
 use Rattle.tables.proofs.Varying.{variable_unknown, variable_large, variable_asks, variable_did}
 use Rattle.tables.proofs.calls.holding.Diagrams.variable.Goals as goal
 
 pub returns-in_err-size : goal.returns-in_err-size
-returns-in_err-size c =
-    let p = err_from_is_err_and c.from_residual.result c.from_residual.ensures.1 in
-    rw (p.1, p.2) (variable_unknown c.args.self.now c.args.x c.in_err-size.field-0.0 c.in_err-size.ensures.tested)
+returns-in_err-size c = search (rules, variable_unknown c.args.self.now c.args.x c.in_err-size.field-0.0 c.in_err-size.ensures.tested)
 
 pub returns-then-size-self : goal.returns-then-size-self
 returns-then-size-self c = variable_large c.args.self.now c.args.x c.in_ok-size.ensures.tested c.in_ok-size.ensures.size (omega arith)

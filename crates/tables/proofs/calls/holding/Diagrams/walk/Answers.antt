@@ -1,19 +1,15 @@
-use Rattle.std.proofs.Common.{take, ap, ◌∙◌, arith}
+use Rattle.std.proofs.Common.{take, ap, ◌∙◌}
 use Rattle.mvl.specs.Charts.{chart_meaning}
 use Rattle.tables.specs.Cards.{shape_of}
 use Rattle.tables.specs.Stores.{items, heads}
 use Rattle.tables.specs.Sounds.{Sound}
 use Rattle.tables.proofs.Facts.{sound_of}
-use Rattle.tables.proofs.Looping.{grows_long, grown_same, walks_grown}
+use Rattle.tables.proofs.Looping.{grown_same, walks_grown}
 use Rattle.tables.proofs.Applying.{sound_back}
 use Rattle.tables.proofs.calls.holding.Diagrams.walk.Goals as goal
 
-pub cut-requires : goal.cut-requires
-cut-requires g c =
-    let D = c.args.self.now in
-    let D' = c.try_walk-walked.new.self in
-    let grown = walks_grown (g.W.Walk.way c.args.walk.now) c.args.task c.try_walk-walked.result c.try_walk-walked.ensures in
-    record { within = omega (arith, grows_long (items D.store) (items D'.store) grown.grows, c.len-before.ensures); chained = (sound_of D').chained }
+pub cut-requires-clause-chained : goal.cut-requires-clause-chained
+cut-requires-clause-chained g c = (sound_of c.try_walk-walked.new.self).chained
 
 pub invariant_of-self : goal.invariant_of-self
 invariant_of-self g c =

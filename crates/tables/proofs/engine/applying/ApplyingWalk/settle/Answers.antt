@@ -14,9 +14,6 @@ worth-a-requires-clause-value c = low_value c.args.diagrams.now c.args.task.left
 pub worth-b-requires-clause-value : goal.worth-b-requires-clause-value
 worth-b-requires-clause-value c = low_value c.args.diagrams.now c.args.task.right c.requires.of.right (omega arith)
 
-pub constant_edge-requires : goal.constant_edge-requires
-constant_edge-requires c = c.requires.fair c.worth-a.result c.worth-b.result c.worth-a.ensures.bound c.worth-b.ensures.bound
-
 pub returns : goal.returns
 returns c =
     settled_pair c.args.diagrams.now c.args.self.now.answers c.args.task c.constant_edge.result c.requires.fair c.requires.of (omega arith) (omega arith)
