@@ -11,7 +11,7 @@ use Rattle.diagrams.proofs.Reading.Edges.{turned_of}
 use Rattle.diagrams.proofs.Reading.Values.{value_turned}
 use Rattle.diagrams.proofs.Build.Gain.{constant_of, constant_value}
 use Rattle.diagrams.proofs.Calls.Granted.{edge_is, granted_from}
-use Rattle.tables.specs.declared.calls.holding.Diagrams.{Diagrams}
+use Rattle.tables.specs.declared.parts.holding.Diagrams.{Diagrams}
 use Rattle.tables.specs.Cards.{shape_of}
 use Rattle.tables.specs.Did.{meaning_of, nodes_of, table_of, Did}
 use Rattle.tables.proofs.Refused.{failed, unless_no, unless_yes}

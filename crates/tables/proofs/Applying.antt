@@ -22,7 +22,7 @@ use Rattle.tables.specs.declared.parts.node.Link.{Link}
 use Rattle.tables.specs.declared.parts.node.Node.{Node}
 use Rattle.tables.specs.declared.parts.card.Card.{Card}
 use Rattle.tables.specs.declared.engine.task.Task.{Task}
-use Rattle.tables.specs.declared.calls.holding.Diagrams.{Diagrams}
+use Rattle.tables.specs.declared.parts.holding.Diagrams.{Diagrams}
 use Rattle.tables.specs.Edges.{arrow}
 use Rattle.tables.specs.Chains.{Chained}
 use Rattle.tables.specs.Cards.{shape_of}

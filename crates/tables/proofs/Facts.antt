@@ -14,7 +14,7 @@ use Rattle.diagrams.specs.Runs.{Step, answers, refuses, edge, refused}
 use Rattle.diagrams.proofs.Build.Gain.{gains_known}
 use Rattle.tables.specs.declared.parts.node.Node.{Node}
 use Rattle.tables.specs.declared.parts.card.Card.{Card}
-use Rattle.tables.specs.declared.calls.holding.Diagrams.{Diagrams}
+use Rattle.tables.specs.declared.parts.holding.Diagrams.{Diagrams}
 use Rattle.tables.specs.Records.{nodes_in}
 use Rattle.tables.specs.Cards.{shape_of, capacity_of}
 use Rattle.tables.specs.Stores.{items, heads}

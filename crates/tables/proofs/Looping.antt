@@ -19,7 +19,7 @@ use Rattle.tables.specs.declared.parts.card.Card.{Card}
 use Rattle.tables.specs.declared.parts.store.Store.{Store}
 use Rattle.tables.specs.declared.engine.task.Task.{Task}
 use Rattle.tables.specs.declared.engine.frame.Frame.{Frame}
-use Rattle.tables.specs.declared.calls.holding.Diagrams.{Diagrams}
+use Rattle.tables.specs.declared.parts.holding.Diagrams.{Diagrams}
 use Rattle.tables.specs.Edges.{arrow, arrows, unused}
 use Rattle.tables.specs.Records.{nodes_in}
 use Rattle.tables.specs.Cards.{shape_of, capacity_of}

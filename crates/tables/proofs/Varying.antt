@@ -20,7 +20,7 @@ use Rattle.diagrams.proofs.Build.Want.{wanted_fits}
 use Rattle.diagrams.proofs.Calls.Granted.{granted_from}
 use Rattle.tables.specs.declared.parts.edge.Edge.{Edge}
 use Rattle.tables.specs.declared.parts.card.Card.{Card}
-use Rattle.tables.specs.declared.calls.holding.Diagrams.{Diagrams}
+use Rattle.tables.specs.declared.parts.holding.Diagrams.{Diagrams}
 use Rattle.tables.specs.Edges.{arrow, arrows}
 use Rattle.tables.specs.Cards.{shape_of}
 use Rattle.tables.specs.Stores.{items}

@@ -7,7 +7,7 @@ use Rattle.diagrams.specs.Walk.{applies, restricts, Fair, TaskOf, follow, Settle
 use Rattle.diagrams.proofs.Walk.Task.{settles_constant, settles_restricted}
 use Rattle.tables.specs.declared.parts.edge.Edge.{Edge}
 use Rattle.tables.specs.declared.engine.task.Task.{Task}
-use Rattle.tables.specs.declared.calls.holding.Diagrams.{Diagrams}
+use Rattle.tables.specs.declared.parts.holding.Diagrams.{Diagrams}
 use Rattle.tables.specs.Edges.{arrow}
 use Rattle.tables.specs.Records.{at}
 use Rattle.tables.specs.Cards.{shape_of}

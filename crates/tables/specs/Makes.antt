@@ -4,7 +4,7 @@ use Rattle.mvl.specs.declared.refusal.Refusal.{Refusal}
 use Rattle.mvl.specs.declared.refusal.Refusal.TheVariants.{NoRoom}
 use Rattle.diagrams.specs.Make.{Alike, Made, Makes}
 use Rattle.tables.specs.declared.parts.edge.Edge.{Edge}
-use Rattle.tables.specs.declared.calls.holding.Diagrams.{Diagrams}
+use Rattle.tables.specs.declared.parts.holding.Diagrams.{Diagrams}
 use Rattle.tables.specs.Edges.{arrow, arrows}
 use Rattle.tables.specs.Cards.{shape_of, capacity_of}
 use Rattle.tables.specs.Stores.{items}

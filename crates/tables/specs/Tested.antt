@@ -6,7 +6,7 @@ use Rattle.mvl.specs.Numbers.{number}
 use Rattle.diagrams.specs.Refusals.{is_edge, unless}
 use Rattle.tables.specs.declared.parts.edge.Edge.{Edge}
 use Rattle.tables.specs.declared.parts.card.Card.{Card}
-use Rattle.tables.specs.declared.calls.holding.Diagrams.{Diagrams}
+use Rattle.tables.specs.declared.parts.holding.Diagrams.{Diagrams}
 use Rattle.tables.specs.Edges.{arrow}
 use Rattle.tables.specs.Did.{meaning_of, nodes_of}
 

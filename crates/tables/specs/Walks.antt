@@ -14,7 +14,7 @@ use Rattle.tables.specs.declared.engine.task.Task.{Task}
 use Rattle.tables.specs.declared.engine.frame.Frame.{Frame}
 use Rattle.tables.specs.declared.engine.task.Next.{Next}
 use Rattle.tables.specs.declared.engine.task.Next.TheVariants.{Settled, Split}
-use Rattle.tables.specs.declared.calls.holding.Diagrams.{Diagrams}
+use Rattle.tables.specs.declared.parts.holding.Diagrams.{Diagrams}
 use Rattle.tables.specs.Edges.{arrow, arrows}
 use Rattle.tables.specs.Records.{at}
 use Rattle.tables.specs.Cards.{shape_of, capacity_of}

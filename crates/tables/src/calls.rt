@@ -2,7 +2,6 @@
 
 pub(crate) mod asking;
 pub(crate) mod evaluating;
-pub(crate) mod holding;
 pub mod reading;
 pub mod table;
 pub(crate) mod testing;

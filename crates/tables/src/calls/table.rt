@@ -8,10 +8,10 @@ ghost use Rattle.tables.specs.Did.{meaning_of, table_of, Fresh};
 ghost use Rattle.tables.specs.Does.{Does};
 ghost use Rattle.tables.specs.Evaluates.{Evaluates};
 
-use crate::calls::holding::Diagrams;
 use crate::calls::reading::Reading;
 use crate::parts::card::Card;
 use crate::parts::edge::Edge;
+use crate::parts::holding::Diagrams;
 use mvl::chart::Chart;
 use mvl::labelling::Labelling;
 use mvl::refusal::Refusal;

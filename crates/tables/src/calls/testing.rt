@@ -3,8 +3,8 @@
 ghost use Rattle.std.specs.Prelude.{◌≡◌, IfOk, slice_index};
 ghost use Rattle.tables.specs.Tested.{Tested, no_variable, no_value, unfit};
 
-use crate::calls::holding::Diagrams;
 use crate::parts::edge::Edge;
+use crate::parts::holding::Diagrams;
 use mvl::refusal::Refusal;
 
 impl Diagrams {

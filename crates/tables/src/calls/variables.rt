@@ -3,9 +3,9 @@
 ghost use Rattle.diagrams.specs.Calls.{asks, variable as varying, literal as choosing};
 ghost use Rattle.tables.specs.Did.{answer_of, Did};
 
-use crate::calls::holding::Diagrams;
 use crate::engine::rows::{chosen, constants};
 use crate::parts::edge::Edge;
+use crate::parts::holding::Diagrams;
 use mvl::refusal::Refusal;
 
 impl Diagrams {

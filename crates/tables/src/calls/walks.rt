@@ -7,13 +7,13 @@ ghost use Rattle.tables.specs.Edges.{arrow};
 ghost use Rattle.tables.specs.Did.{meaning_of, nodes_of, answer_of, Did};
 ghost use Rattle.tables.specs.Walks.{task_of, Walked};
 
-use crate::calls::holding::Diagrams;
 use crate::engine::answering::answers_of;
 use crate::engine::applying::Applying;
 use crate::engine::restricting::Restricting;
 use crate::engine::settling::Walk;
 use crate::engine::task::Task;
 use crate::parts::edge::Edge;
+use crate::parts::holding::Diagrams;
 use mvl::refusal::Refusal;
 use operations::operation::Operation;
 

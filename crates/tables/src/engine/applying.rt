@@ -3,11 +3,11 @@
 ghost use Rattle.diagrams.specs.Walk.{applies};
 ghost use Rattle.tables.specs.Walks.{told};
 
-use crate::calls::holding::Diagrams;
 use crate::engine::following::{level, worth};
 use crate::engine::rows::constant_edge;
 use crate::engine::settling::Walk;
 use crate::engine::task::{Next, Task};
+use crate::parts::holding::Diagrams;
 
 /// The operation's answer for (a, b) is at 4 * a + b.
 #[derive(Clone, Copy)]

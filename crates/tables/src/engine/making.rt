@@ -10,10 +10,10 @@ ghost use Rattle.tables.specs.Finds.{Finds};
 ghost use Rattle.tables.specs.Did.{meaning_of, nodes_of};
 ghost use Rattle.tables.specs.Makes.{MakesNode};
 
-use crate::calls::holding::Diagrams;
 use crate::engine::labels::inverse;
 use crate::engine::rows::{alike, turned};
 use crate::parts::edge::Edge;
+use crate::parts::holding::Diagrams;
 use crate::parts::node::{hash, same};
 use crate::parts::store::Store;
 use mvl::refusal::Refusal;

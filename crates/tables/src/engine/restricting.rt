@@ -2,10 +2,10 @@
 
 ghost use Rattle.diagrams.specs.Walk.{restricts};
 
-use crate::calls::holding::Diagrams;
 use crate::engine::following::{follow, level};
 use crate::engine::settling::Walk;
 use crate::engine::task::{Next, Task};
+use crate::parts::holding::Diagrams;
 
 /// The variable, and its value.
 #[derive(Clone, Copy)]

@@ -6,12 +6,12 @@ ghost use Rattle.tables.specs.Cards.{shape_of};
 ghost use Rattle.tables.specs.Did.{meaning_of, nodes_of};
 ghost use Rattle.tables.specs.Walks.{task_of, Walks};
 
-use crate::calls::holding::Diagrams;
 use crate::engine::following::child;
 use crate::engine::frame::Frame;
 use crate::engine::settling::Walk;
 use crate::engine::task::{Next, Task};
 use crate::parts::edge::Edge;
+use crate::parts::holding::Diagrams;
 use mvl::refusal::Refusal;
 
 impl Diagrams {

@@ -5,8 +5,8 @@ ghost use Rattle.tables.specs.Cards.{shape_of};
 ghost use Rattle.tables.specs.Did.{meaning_of, nodes_of};
 ghost use Rattle.tables.specs.Walks.{task_of, ComesTo};
 
-use crate::calls::holding::Diagrams;
 use crate::engine::task::{Next, Task};
+use crate::parts::holding::Diagrams;
 
 /// What is done to the edges of every task.
 pub(crate) trait Walk {

@@ -7,7 +7,7 @@ use Rattle.tables.specs.Cards.{shape_of}
 use Rattle.tables.specs.Evaluates.{assigned}
 use Rattle.tables.specs.Did.{meaning_of, nodes_of}
 use Rattle.tables.proofs.Following.{within, visited_low, read_variable, read_value, read_label, read_on, terminal_low, value_there, visited_there, visited_few, follow_start}
-use Rattle.tables.proofs.calls.holding.Diagrams.follow.Goals as goal
+use Rattle.tables.proofs.parts.holding.Diagrams.follow.Goals as goal
 
 pub loop-target-init : goal.loop-target-init
 loop-target-init c =

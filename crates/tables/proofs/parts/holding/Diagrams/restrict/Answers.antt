@@ -1,6 +1,6 @@
 use Rattle.std.proofs.Common.{rules}
 use Rattle.tables.proofs.Applying.{restrict_strange, restrict_unfit, restrict_did}
-use Rattle.tables.proofs.calls.holding.Diagrams.restrict.Goals as goal
+use Rattle.tables.proofs.parts.holding.Diagrams.restrict.Goals as goal
 
 pub returns-then-not-has : goal.returns-then-not-has
 returns-then-not-has c = restrict_strange c.args.self.now c.args.e c.args.x c.args.v c.if-not-has.ensures

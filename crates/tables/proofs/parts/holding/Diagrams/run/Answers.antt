@@ -1,6 +1,6 @@
 use Rattle.std.proofs.Common.{refl, rules, arith}
 use Rattle.tables.proofs.Looping.{begins, left_leads, right_leads, next_task, fill_again, fill_less, push_room, push_again, push_less, full_asks, full_short, full_gained, below_few, pop_again, pop_less}
-use Rattle.tables.proofs.calls.holding.Diagrams.run.Goals as goal
+use Rattle.tables.proofs.parts.holding.Diagrams.run.Goals as goal
 
 pub loop-self-init : goal.loop-self-init
 loop-self-init g c = begins c.args.self.now c.requires.fair _ c.requires.needs (record { task = refl; variable = refl; done = c.requires.none }) refl

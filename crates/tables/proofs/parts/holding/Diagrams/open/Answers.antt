@@ -3,7 +3,7 @@ use Rattle.tables.specs.Cards.{shape_of}
 use Rattle.tables.specs.Stores.{items, heads}
 use Rattle.tables.proofs.CardFacts.{shape_laws_of}
 use Rattle.tables.proofs.Opening.{empty_sound}
-use Rattle.tables.proofs.calls.holding.Diagrams.open.Goals as goal
+use Rattle.tables.proofs.parts.holding.Diagrams.open.Goals as goal
 
 pub invariant_of-result : goal.invariant_of-result
 invariant_of-result c =

@@ -6,7 +6,7 @@ use Rattle.tables.specs.Sounds.{Sound}
 use Rattle.tables.proofs.Facts.{sound_of}
 use Rattle.tables.proofs.Looping.{grown_same, walks_grown}
 use Rattle.tables.proofs.Applying.{sound_back}
-use Rattle.tables.proofs.calls.holding.Diagrams.walk.Goals as goal
+use Rattle.tables.proofs.parts.holding.Diagrams.walk.Goals as goal
 
 pub cut-requires-clause-chained : goal.cut-requires-clause-chained
 cut-requires-clause-chained g c = (sound_of c.try_walk-walked.new.self).chained

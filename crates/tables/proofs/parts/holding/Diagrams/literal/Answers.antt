@@ -1,6 +1,6 @@
 use Rattle.std.proofs.Common.{rules}
 use Rattle.tables.proofs.Varying.{literal_unfit, literal_asks, literal_did}
-use Rattle.tables.proofs.calls.holding.Diagrams.literal.Goals as goal
+use Rattle.tables.proofs.parts.holding.Diagrams.literal.Goals as goal
 
 pub returns-in_err-size : goal.returns-in_err-size
 returns-in_err-size c = search (rules, literal_unfit c.args.self.now c.args.x c.args.v c.in_err-size.field-0.0 c.in_err-size.ensures.tested)

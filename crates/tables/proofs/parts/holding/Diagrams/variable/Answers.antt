@@ -1,6 +1,6 @@
 use Rattle.std.proofs.Common.{rules, arith}
 use Rattle.tables.proofs.Varying.{variable_unknown, variable_large, variable_asks, variable_did}
-use Rattle.tables.proofs.calls.holding.Diagrams.variable.Goals as goal
+use Rattle.tables.proofs.parts.holding.Diagrams.variable.Goals as goal
 
 pub returns-in_err-size : goal.returns-in_err-size
 returns-in_err-size c = search (rules, variable_unknown c.args.self.now c.args.x c.in_err-size.field-0.0 c.in_err-size.ensures.tested)

@@ -1,6 +1,6 @@
 use Rattle.diagrams.proofs.Walk.Measure.{left}
 use Rattle.tables.proofs.Looping.{Inv, frame_at, pieces}
-use Rattle.tables.proofs.calls.holding.Diagrams.run.Given as goal
+use Rattle.tables.proofs.parts.holding.Diagrams.run.Given as goal
 
 abbrev pub invariant-loop-self : goal.invariant-loop-self
 invariant-loop-self g l = Inv l.initial.self (g.W.Walk.way l.walk) (frame_at l.initial.frames 0).task l.self.chart l.self.card l.self.store l.frames l.k

@@ -4,7 +4,7 @@ use Rattle.diagrams.proofs.Reading.Edges.{edge_same}
 use Rattle.tables.specs.Edges.{arrow, goal as goal'}
 use Rattle.tables.specs.Did.{meaning_of}
 use Rattle.tables.proofs.Answering.{turn_strange, turn_unlabelled, turn_known}
-use Rattle.tables.proofs.calls.holding.Diagrams.turn.Goals as goal
+use Rattle.tables.proofs.parts.holding.Diagrams.turn.Goals as goal
 
 pub returns-then-not-has : goal.returns-then-not-has
 returns-then-not-has c = turn_strange c.args.self.now (arrow c.args.e) c.args.k c.if-not-has.ensures

@@ -5,7 +5,7 @@ use Rattle.tables.specs.Cards.{shape_of}
 use Rattle.tables.specs.Evaluates.{assigned}
 use Rattle.tables.specs.Did.{meaning_of, table_of}
 use Rattle.tables.proofs.Unreadable.{strange, wrong_length, too_large, readable}
-use Rattle.tables.proofs.calls.holding.Diagrams.evaluate.Goals as goal
+use Rattle.tables.proofs.parts.holding.Diagrams.evaluate.Goals as goal
 
 pub returns-then-not-has : goal.returns-then-not-has
 returns-then-not-has c =
