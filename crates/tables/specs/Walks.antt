@@ -7,7 +7,7 @@ use Rattle.mvl.specs.declared.refusal.Refusal.TheVariants.{NoRoom}
 use Rattle.diagrams.specs.Functions.{Function}
 use Rattle.diagrams.specs.Diagram.{population}
 use Rattle.diagrams.specs.Build.{Gains, lacking}
-use Rattle.diagrams.specs.Walk.{meant, Settles, Needs, Walk as Way, Task as Pair}
+use Rattle.diagrams.specs.Walk.{Fair, TaskOf, meant, Settles, Needs, Walk as Way, Task as Pair}
 use Rattle.tables.specs.declared.parts.edge.Edge.{Edge}
 use Rattle.tables.specs.declared.parts.node.Node.{Node}
 use Rattle.tables.specs.declared.engine.task.Task.{Task}
@@ -53,10 +53,21 @@ pub record Leads (chart : Chart) (xs : List Node) (x i : ℕ) (e : Edge) : Type 
   pub label : e.word / 16384 < chart.labels
   pub labels : (r : ℕ) → r < length xs → (at xs r).variable ≡ x → (arrows (at xs r).edges i).label < chart.labels
 
--- an edge serves for the task, or it is taken apart at a variable
+-- a walk in a table, and a task of its edges
+abbrev pub WalkIn : Diagrams → Way → Type 0
+WalkIn d w = Fair (meaning_of d) (shape_of d.card) w
+
+abbrev pub TaskIn : Diagrams → Task → Type 0
+TaskIn d t = TaskOf (meaning_of d) (nodes_of d) (task_of t)
+
+-- the task is taken apart at variable y
+abbrev pub SplitsAt : Diagrams → Way → Task → ℕ → Type 0
+SplitsAt d w t y = Needs (meaning_of d) (shape_of d.card) (nodes_of d) w (task_of t) y
+
+-- an edge serves for the task, or it is taken apart
 abbrev pub ComesTo : Diagrams → Way → Task → Next → Type 0
 ComesTo d w t (Settled r) = Settles (meaning_of d) (shape_of d.card) (nodes_of d) w (task_of t) (arrow r)
-ComesTo d w t (Split y) = Needs (meaning_of d) (shape_of d.card) (nodes_of d) w (task_of t) y
+ComesTo d w t (Split y) = SplitsAt d w t y
 
 -- the function of a task
 abbrev pub walked : Diagrams → Way → Task → Function

@@ -1,11 +1,9 @@
 //! An operation applied to two edges, and an edge restricted.
 
 ghost use Rattle.diagrams.specs.Calls.{asks, apply as applying, restrict as restricting};
-ghost use Rattle.diagrams.specs.Walk.{Fair, TaskOf};
-ghost use Rattle.tables.specs.Cards.{shape_of};
 ghost use Rattle.tables.specs.Edges.{arrow};
-ghost use Rattle.tables.specs.Did.{meaning_of, nodes_of, answer_of, Did};
-ghost use Rattle.tables.specs.Walks.{task_of, Walked};
+ghost use Rattle.tables.specs.Did.{answer_of, Did};
+ghost use Rattle.tables.specs.Walks.{WalkIn, TaskIn, Walked};
 
 use crate::engine::answering::answers_of;
 use crate::engine::applying::Applying;
@@ -20,8 +18,8 @@ use operations::operation::Operation;
 impl Diagrams {
     // The edge of a task. Where there is no room for it, what was added is taken back.
     fn walk<W: Walk>(&mut self, walk: &W, task: Task) -> Result<Edge, Refusal>
-        requires fair { Fair (meaning_of self.old) (shape_of self.old.card) (W.way walk.now) }
-        requires of { TaskOf (meaning_of self.old) (nodes_of self.old) (task_of task) }
+        requires fair { WalkIn self.old (W.way walk.now) }
+        requires of { TaskIn self.old task }
         ensures { Walked self.old (W.way walk.now) task result self.new }
     {
         let before = self.store.len();

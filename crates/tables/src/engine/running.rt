@@ -1,10 +1,6 @@
 //! A walk, with a stack.
 
-ghost use Rattle.std.specs.Prelude.{◌≡◌};
-ghost use Rattle.diagrams.specs.Walk.{Fair, TaskOf, Needs};
-ghost use Rattle.tables.specs.Cards.{shape_of};
-ghost use Rattle.tables.specs.Did.{meaning_of, nodes_of};
-ghost use Rattle.tables.specs.Walks.{task_of, Walks};
+ghost use Rattle.tables.specs.Walks.{WalkIn, TaskIn, SplitsAt, Walks};
 
 use crate::engine::following::child;
 use crate::engine::frame::Frame;
@@ -18,13 +14,12 @@ impl Diagrams {
     // The frame at the top makes its next edge, or the node of all its edges, which is then the next edge of the frame below. A frame above
     // another is of a variable below the other's, so that twelve are enough.
     // A loop over a plain stack, and neither recursion nor a `Vec`: a rule of the project wants walks in fixed memory.
-    fn run<W: Walk>(&mut self, walk: &W, first: Frame) -> Result<Edge, Refusal>
-        requires fair { Fair (meaning_of self.old) (shape_of self.old.card) (W.way walk.now) }
-        requires needs { Needs (meaning_of self.old) (shape_of self.old.card) (nodes_of self.old) (W.way walk.now) (task_of first.task) first.variable }
-        requires none { first.done ≡ 0 }
-        ensures { Walks self.old (W.way walk.now) first.task result self.new }
+    fn run<W: Walk>(&mut self, walk: &W, task: Task, variable: u8) -> Result<Edge, Refusal>
+        requires fair { WalkIn self.old (W.way walk.now) }
+        requires splits { SplitsAt self.old (W.way walk.now) task variable }
+        ensures { Walks self.old (W.way walk.now) task result self.new }
     {
-        let mut frames = [first; 12];
+        let mut frames = [Frame::of(task, variable); 12];
         let mut k = 0usize;
         loop {
             let top = frames[k];
@@ -50,13 +45,13 @@ impl Diagrams {
 
     /// The edge of a task. Where there is no room for it, nodes may have been added all the same.
     pub(crate) fn try_walk<W: Walk>(&mut self, walk: &W, task: Task) -> Result<Edge, Refusal>
-        requires fair { Fair (meaning_of self.old) (shape_of self.old.card) (W.way walk.now) }
-        requires of { TaskOf (meaning_of self.old) (nodes_of self.old) (task_of task) }
+        requires fair { WalkIn self.old (W.way walk.now) }
+        requires of { TaskIn self.old task }
         ensures { Walks self.old (W.way walk.now) task result self.new }
     {
         match walk.settle(self, task) {
             Next::Settled(r) => Ok(r),
-            Next::Split(y) => self.run(walk, Frame::of(task, y)),
+            Next::Split(y) => self.run(walk, task, y),
         }
     }
 }

@@ -1,9 +1,7 @@
 //! What a walk does with a task.
 
-ghost use Rattle.diagrams.specs.Walk.{Fair, TaskOf, Walk as Way};
-ghost use Rattle.tables.specs.Cards.{shape_of};
-ghost use Rattle.tables.specs.Did.{meaning_of, nodes_of};
-ghost use Rattle.tables.specs.Walks.{task_of, ComesTo};
+ghost use Rattle.diagrams.specs.Walk.{Walk as Way};
+ghost use Rattle.tables.specs.Walks.{WalkIn, TaskIn, ComesTo};
 
 use crate::engine::task::{Next, Task};
 use crate::parts::holding::Diagrams;
@@ -15,7 +13,7 @@ pub(crate) trait Walk {
 
     /// An edge that serves for the task, or the variable at which it is taken apart.
     fn settle(&self, diagrams: &Diagrams, task: Task) -> Next
-        requires fair { Fair (meaning_of diagrams.now) (shape_of diagrams.now.card) (way self.now) }
-        requires of { TaskOf (meaning_of diagrams.now) (nodes_of diagrams.now) (task_of task) }
+        requires fair { WalkIn diagrams.now (way self.now) }
+        requires of { TaskIn diagrams.now task }
         ensures { ComesTo diagrams.now (way self.now) task result };
 }

@@ -2,7 +2,7 @@
 
 use crate::parts::edge::Edge;
 
-/// The two edges of a task. A restriction has any edge on the right, and never looks at it.
+/// The two edges of a task. A restriction has any edge on the right, and never looks at it, so that one loop serves all walks.
 #[derive(Clone, Copy)]
 pub(crate) struct Task {
     pub(crate) left: Edge,

@@ -6,7 +6,7 @@ pub level-top-requires-clause-variables : goal.level-top-requires-clause-variabl
 level-top-requires-clause-variables c = variables_within c.args.diagrams.now
 
 pub follow-requires-clause-leads : goal.follow-requires-clause-leads
-follow-requires-clause-leads c = leads c.args.diagrams.now _ _ c.args.task.left c.requires.fair.1 c.requires.of.left
+follow-requires-clause-leads c = leads c.args.diagrams.now _ _ c.args.task.left (omega (arith, c.requires.fair.1)) c.requires.of.left
 
 pub returns : goal.returns
 returns c = settled_single c.args.diagrams.now c.args.task c.follow.result c.requires.fair c.requires.of (omega arith) c.follow.ensures

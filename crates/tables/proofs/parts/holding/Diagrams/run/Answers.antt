@@ -3,7 +3,7 @@ use Rattle.tables.proofs.Looping.{begins, left_leads, right_leads, next_task, fi
 use Rattle.tables.proofs.parts.holding.Diagrams.run.Goals as goal
 
 pub loop-self-init : goal.loop-self-init
-loop-self-init g c = begins c.args.self.now c.requires.fair _ c.requires.needs (record { task = refl; variable = refl; done = c.requires.none }) refl
+loop-self-init g c = begins c.args.self.now c.requires.fair _ c.requires.splits c.of-frames.ensures refl
 
 pub child-next-requires-clause-left : goal.child-next-requires-clause-left
 child-next-requires-clause-left g c = left_leads c.loop-self.self c.loop-self.invariant c.if-top-self.true
