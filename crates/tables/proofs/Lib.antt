@@ -17,6 +17,7 @@ pub mod Varying
 pub mod Following
 pub mod Unreadable
 pub mod Walking
+pub mod Growing
 pub mod Looping
 pub mod Tabling
 pub mod Applying

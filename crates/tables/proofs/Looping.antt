@@ -1,5 +1,5 @@
 -- A walk in a loop, turn by turn: what holds of the table and the frames. Assumes nothing.
-use Rattle.std.proofs.Common.{◌≡◌, ℕ, suc, ◌+◌, ◌-◌, ◌<◌, ◌≤◌, min, List, [], length, get_or, take, set, Ok, Err, Result, sym, refl, ap, ◌∙◌, subst, subst₂, add-one, arith, length-set, length-take, get_or-set_other, get_or-set_same, take-take}
+use Rattle.std.proofs.Common.{◌≡◌, ℕ, suc, ◌+◌, ◌-◌, ◌<◌, ◌≤◌, List, [], length, get_or, set, Ok, Err, Result, sym, refl, ap, ◌∙◌, subst, add-one, arith, length-set, get_or-set_other, get_or-set_same}
 use lib.Seq.{take-length}
 use Rattle.mvl.specs.Charts.{chart_meaning}
 use Rattle.mvl.specs.declared.chart.Chart.{Chart}
@@ -14,7 +14,6 @@ use Rattle.diagrams.proofs.Walk.Measure.{left, left_fill, left_push, left_pop}
 use Rattle.diagrams.proofs.Walk.Work.{Start, Working, settled_gains, working_start, working_fill, done_few, next_of, settled_serves, push_low, working_push, top_needs}
 use Rattle.diagrams.proofs.Walk.Full.{top_asks, top_lacks, top_gains, top_serves}
 use Rattle.tables.specs.declared.parts.edge.Edge.{Edge}
-use Rattle.tables.specs.declared.parts.node.Node.{Node}
 use Rattle.tables.specs.declared.parts.card.Card.{Card}
 use Rattle.tables.specs.declared.parts.store.Store.{Store}
 use Rattle.tables.specs.declared.engine.task.Task.{Task}
@@ -29,15 +28,9 @@ use Rattle.tables.specs.Did.{meaning_of, nodes_of}
 use Rattle.tables.specs.Makes.{Grown, HasMade, LacksRoom}
 use Rattle.tables.specs.Walks.{task_of, Begins, Extended, Leads, Gained, Short, Walks}
 use Rattle.tables.proofs.Facts.{laws, shape_laws, reduced_of}
+use Rattle.tables.proofs.Growing.{grown_same, grown_back, grown_refl, grown_trans}
 use Rattle.tables.proofs.Walking.{leads}
 use Rattle.tables.proofs.Appending.{population_is}
-
--- records that were added at the end
-pub grows_long : (xs ys : List Node) → Grows xs ys → length xs ≤ length ys
-grows_long xs ys g = let e : min (length xs) (length ys) ≡ length xs = sym (length-take (length xs) ys) ∙ ap length g in omega arith
-
-grows_trans : (xs ys zs : List Node) → Grows xs ys → Grows ys zs → Grows xs zs
-grows_trans xs ys zs g h = sym (take-take (length xs) (length ys) zs (grows_long xs ys g)) ∙ ap (take (length xs)) h ∙ g
 
 -- what a frame stands for
 abbrev pub piece_of : Frame → Piece Pair
@@ -65,23 +58,6 @@ extends {f} {g} {r} few e =
       before = λ i h. ap (λ (es : List Edge). arrows es i) e.edges ∙ ap arrow (get_or-set_other f.edges f.done i r unused (omega arith));
       last = ap (λ (es : List Edge). arrows es f.done) e.edges ∙ ap arrow (get_or-set_same f.edges f.done r unused (omega arith));
     }
-
--- what is said of a chart and a card is said of those that stayed
-pub grown_same : {D D' : Diagrams} → Grown D D' → (P : Chart → Card → Type 0) → P D.chart D.card → P D'.chart D'.card
-grown_same grown P p = subst₂ P (sym grown.chart) (sym grown.card) p
-
-grown_back : {D D' : Diagrams} → Grown D D' → (P : Chart → Card → Type 0) → P D'.chart D'.card → P D.chart D.card
-grown_back grown P p = subst₂ P grown.chart grown.card p
-
-pub grown_refl : (D : Diagrams) → Grown D D
-grown_refl D = record { chart = refl; card = refl; grows = take-length (items D.store) }
-
-grown_trans : {D D' D'' : Diagrams} → Grown D D' → Grown D' D'' → Grown D D''
-grown_trans {D} {D'} {D''} first then = record {
-  chart = then.chart ∙ first.chart;
-  card = then.card ∙ first.card;
-  grows = grows_trans (items D.store) (items D'.store) (items D''.store) first.grows then.grows;
-}
 
 pub walks_grown : {D D' : Diagrams} (w : Way) (t : Task) (r : Result Edge Refusal) → Walks D w t r D' → Grown D D'
 walks_grown w t (Ok r) gained = gained.grown

@@ -7,7 +7,7 @@ use Rattle.tables.specs.Stores.{items}
 use Rattle.tables.proofs.Goals.{goal_of}
 use Rattle.tables.proofs.Facts.{laws, shape_laws, sound_of}
 use Rattle.tables.proofs.NodeMade.{unlike_is, made_alike, made_present, none_made, made_added, sound_added}
-use Rattle.tables.proofs.Looping.{grown_refl}
+use Rattle.tables.proofs.Growing.{grown_refl}
 use Rattle.tables.proofs.parts.holding.Diagrams.make.Goals as goal
 
 pub returns-then-alike : goal.returns-then-alike

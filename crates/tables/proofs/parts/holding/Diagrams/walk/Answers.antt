@@ -4,7 +4,8 @@ use Rattle.tables.specs.Cards.{shape_of}
 use Rattle.tables.specs.Stores.{items, heads}
 use Rattle.tables.specs.Sounds.{Sound}
 use Rattle.tables.proofs.Facts.{sound_of}
-use Rattle.tables.proofs.Looping.{grown_same, walks_grown}
+use Rattle.tables.proofs.Growing.{grown_same}
+use Rattle.tables.proofs.Looping.{walks_grown}
 use Rattle.tables.proofs.Applying.{sound_back}
 use Rattle.tables.proofs.parts.holding.Diagrams.walk.Goals as goal
 
