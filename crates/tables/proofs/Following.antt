@@ -6,7 +6,7 @@ use Rattle.diagrams.specs.Diagram.{terminal, node, Edge as Arrow, edge_to, Nodes
 use Rattle.diagrams.proofs.Reading.Edges.{turned_over}
 use Rattle.diagrams.proofs.Reading.Values.{reads_terminal, value_node, visits_node, node_level}
 use Rattle.tables.specs.declared.parts.node.Node.{Node}
-use Rattle.tables.specs.declared.calls.holding.Diagrams.{Diagrams}
+use Rattle.tables.specs.declared.parts.holding.Diagrams.{Diagrams}
 use Rattle.tables.specs.Edges.{goal, word_at}
 use Rattle.tables.specs.Records.{at}
 use Rattle.tables.specs.Cards.{shape_of}

@@ -1,43 +1,37 @@
 -- A node that is looked up or added is the one that was to be made. Assumes nothing.
-use Rattle.std.proofs.Common.{◌≡◌, ℕ, ◌+◌, ◌<◌, ◌≤◌, true, false, List, [], ◌∷◌, ◌++◌, length, get_or, take, set, Some, None, sym, refl, ap, ◌∙◌, subst, subst₂, ⊎_elim, arith}
-use lib.Seq.{take-length, take-append_seam}
+use Rattle.std.proofs.Common.{◌≡◌, ℕ, ◌+◌, ◌<◌, ◌≤◌, true, false, List, [], ◌∷◌, ◌++◌, length, get_or, set, Some, None, sym, ap, ◌∙◌, subst, subst₂, ⊎_elim, arith}
 use Rattle.std.proofs.lemmas.Bool.{cases_lt}
-use Rattle.mvl.specs.declared.refusal.Refusal.TheVariants.{NoRoom}
 use Rattle.mvl.specs.Labels.{Meaning, inverse, Laws}
 use Rattle.diagrams.specs.Shape.{Shape, ShapeLaws}
 use Rattle.diagrams.specs.Diagram.{node, Edge as Arrow, edge_to, turned}
-use Rattle.diagrams.specs.Make.{Adds, Alike, normal, Made, Makes}
+use Rattle.diagrams.specs.Make.{Adds, Alike, normal, Made, Asks, Makes}
 use Rattle.diagrams.proofs.Build.Make.{makes_alike, makes_present, makes_added}
 use Rattle.tables.specs.declared.parts.edge.Edge.{Edge}
 use Rattle.tables.specs.declared.parts.node.Link.{Link}
 use Rattle.tables.specs.declared.parts.node.Node.{Node}
-use Rattle.tables.specs.Edges.{arrow, arrows, unused}
+use Rattle.tables.specs.Edges.{arrows, unused}
 use Rattle.tables.specs.Records.{at, none, hash_of, nodes_in}
 use Rattle.tables.specs.Sounds.{Sound}
 use Rattle.tables.specs.Finds.{Finds, Alikes, Filled}
-use Rattle.tables.specs.Makes.{AsksNode, HasMade, LacksRoom}
 use Rattle.tables.proofs.Same.{arrow_apart, arrow_same, same_variable, same_words, words_same}
 use Rattle.tables.proofs.Appending.{has_record, more_adds, sound_more}
 
-module _ {m : Meaning} (l : Laws m) {s : Shape} (sl : ShapeLaws s) {xs : List Node} {tops : List Link} (sound : Sound m s xs tops) {x : ℕ} {es : List Edge}
-    (asks : AsksNode m s xs x es) where
+module _ {m : Meaning} (l : Laws m) {s : Shape} (sl : ShapeLaws s) {xs : List Node} {tops : List Link} (sound : Sound m s xs tops) {x : ℕ} (es : List Edge)
+    (asks : Asks m s (nodes_in xs) x (arrows es)) where
   alike_is : Alikes es (s.size x) true → Alike (s.size x) (arrows es)
   alike_is all i h = arrow_same (get_or es i unused) (get_or es 0 unused) (all i h)
 
-  unlike_is : Alikes es (s.size x) false → Alike (s.size x) (arrows es) → ⊥
+  pub unlike_is : Alikes es (s.size x) false → Alike (s.size x) (arrows es) → ⊥
   unlike_is other all = other (λ i h. arrow_apart (get_or es i unused) (get_or es 0 unused) (all i h))
 
   -- the edges are one
-  pub made_alike : Alikes es (s.size x) true → HasMade m s xs x es (get_or es 0 unused) xs
-  made_alike all = record {
-    makes = makes_alike l sl sound.reduced x asks.within (arrows es) asks.of asks.below (alike_is all);
-    grows = take-length xs;
-  }
+  pub made_alike : Alikes es (s.size x) true → Makes m s (nodes_in xs) x (arrows es) (nodes_in xs) (arrows es 0)
+  made_alike all = makes_alike l sl sound.reduced x asks.within (arrows es) asks.of asks.below (alike_is all)
 
   -- the edges ns were turned by the inverse of the first label
-  module _ {k : ℕ} {ns : List Edge} (back : k ≡ inverse m (arrows es 0).label) (turns : Filled (λ i. turned m k (arrows es i)) (s.size x) ns) where
+  module _ {label k : ℕ} {ns : List Edge} (first : label ≡ (arrows es 0).label) (back : k ≡ inverse m label) (turns : Filled (λ i. turned m k (arrows es i)) (s.size x) ns) where
     filled : Filled (normal m (arrows es)) (s.size x) ns
-    filled = subst (λ (j : ℕ). Filled (λ i. turned m j (arrows es i)) (s.size x) ns) back turns
+    filled = subst (λ (j : ℕ). Filled (λ i. turned m j (arrows es i)) (s.size x) ns) (back ∙ ap (inverse m) first) turns
 
     found_made : (r : ℕ) → Finds xs x ns (Some r) → Made m s (nodes_in xs) x (arrows es) r
     found_made r (h, t) = record {
@@ -49,14 +43,13 @@ module _ {m : Meaning} (l : Laws m) {s : Shape} (sl : ShapeLaws s) {xs : List No
     }
 
     -- the node is there
-    pub made_present : {r : ℕ} → Finds xs x ns (Some r) → {e : Edge} → arrow e ≡ edge_to (arrows es 0).label (node r) → HasMade m s xs x es e xs
-    made_present {r} finds is = record {
-      makes = subst (λ (e : Arrow). Makes m s (nodes_in xs) x (arrows es) (nodes_in xs) e) (sym is)
-          (makes_present l sl sound.reduced x asks.within (arrows es) asks.of asks.below (found_made r finds));
-      grows = take-length xs;
-    }
+    pub made_present : {r : ℕ} → Finds xs x ns (Some r) → {e : Arrow} → e ≡ edge_to (arrows es 0).label (node r)
+        → Makes m s (nodes_in xs) x (arrows es) (nodes_in xs) e
+    made_present {r} finds is =
+        subst (λ (e : Arrow). Makes m s (nodes_in xs) x (arrows es) (nodes_in xs) e) (sym is)
+        (makes_present l sl sound.reduced x asks.within (arrows es) asks.of asks.below (found_made r finds))
 
-    none_made : Finds xs x ns None → (q : ℕ) → Made m s (nodes_in xs) x (arrows es) q → ⊥
+    pub none_made : Finds xs x ns None → (q : ℕ) → Made m s (nodes_in xs) x (arrows es) q → ⊥
     none_made finds q made =
         let n = at xs q in
         finds q made.has.0 (words_same n x ns made.variable (λ i h.
@@ -65,11 +58,8 @@ module _ {m : Meaning} (l : Laws m) {s : Shape} (sl : ShapeLaws s) {xs : List No
         (λ (b : s.size x ≤ i). sound.fills q i made.has.0 (subst (λ y. s.size y ≤ i) (sym made.variable) b) h ∙ sym (filled.fills i b h))
         (cases_lt i (s.size x))))
 
-    -- it is missing, and there is no room for it
+    -- it is missing
     module _ (other : Alikes es (s.size x) false) (finds : Finds xs x ns None) where
-      pub made_refused : {capacity : ℕ} → capacity ≤ length xs → LacksRoom m s xs x es capacity NoRoom xs
-      made_refused full = record { is = refl; same = refl; unlike = unlike_is other; missing = none_made finds; full = full }
-
       -- it is added
       module _ (next : Link) where
         abbrev fresh : Node
@@ -83,12 +73,10 @@ module _ {m : Meaning} (l : Laws m) {s : Shape} (sl : ShapeLaws s) {xs : List No
         fresh_makes : Makes m s (nodes_in xs) x (arrows es) (nodes_in (xs ++ fresh ∷ [])) (edge_to (arrows es 0).label (node (length xs)))
         fresh_makes = makes_added l sl sound.reduced x asks.within (arrows es) asks.of asks.below (unlike_is other) (none_made finds) fresh_adds
 
-        pub made_added : {ys : List Node} → ys ≡ xs ++ record { variable = x; edges = ns; next = next } ∷ [] → {e : Edge}
-            → arrow e ≡ edge_to (arrows es 0).label (node (length xs)) → HasMade m s xs x es e ys
-        made_added grown is = record {
-          makes = subst₂ (λ (zs : List Node) (e : Arrow). Makes m s (nodes_in xs) x (arrows es) (nodes_in zs) e) (sym grown) (sym is) fresh_makes;
-          grows = ap (take (length xs)) grown ∙ take-append_seam xs _;
-        }
+        pub made_added : {ys : List Node} → ys ≡ xs ++ record { variable = x; edges = ns; next = next } ∷ [] → {e : Arrow}
+            → e ≡ edge_to (arrows es 0).label (node (length xs)) → Makes m s (nodes_in xs) x (arrows es) (nodes_in ys) e
+        made_added grown is =
+            subst₂ (λ (zs : List Node) (e : Arrow). Makes m s (nodes_in xs) x (arrows es) (nodes_in zs) e) (sym grown) (sym is) fresh_makes
 
       -- at the head of its chain
       pub sound_added : length tops ≡ 1024 → {h : ℕ} → h ≡ hash_of x ns → h < 1024 → {ys : List Node} {us : List Link}

@@ -10,4 +10,5 @@ pub mod Makes
 pub mod Did
 pub mod Evaluates
 pub mod Walks
-pub mod Walked
+pub mod Tested
+pub mod Does

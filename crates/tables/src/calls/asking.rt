@@ -6,11 +6,11 @@ ghost use Rattle.diagrams.specs.Refusals.{is_edge};
 ghost use Rattle.tables.specs.Edges.{arrow};
 ghost use Rattle.tables.specs.Did.{meaning_of, nodes_of, answer_of, Did, Opens};
 
-use crate::calls::holding::Diagrams;
 use crate::engine::labels::{home, product};
 use crate::engine::rows::constant_edge;
 use crate::parts::card::Card;
 use crate::parts::edge::Edge;
+use crate::parts::holding::Diagrams;
 use crate::parts::store::Store;
 use mvl::chart::Chart;
 use mvl::refusal::Refusal;

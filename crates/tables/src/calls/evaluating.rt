@@ -8,10 +8,10 @@ ghost use Rattle.tables.specs.Cards.{shape_of};
 ghost use Rattle.tables.specs.Did.{meaning_of, nodes_of, table_of};
 ghost use Rattle.tables.specs.Evaluates.{assigned, Evaluates};
 
-use crate::calls::holding::Diagrams;
 use crate::calls::reading::Reading;
 use crate::engine::labels::{carry, product};
 use crate::parts::edge::Edge;
+use crate::parts::holding::Diagrams;
 use mvl::refusal::Refusal;
 
 impl Diagrams {
