@@ -1,5 +1,5 @@
 -- One record more. Assumes nothing.
-use Rattle.std.proofs.Common.{◌≡◌, ℕ, ◌+◌, ◌-◌, ◌<◌, ◌≤◌, true, ltb, ◌≢◌, List, [], ◌∷◌, ◌++◌, length, get_or, set, sym, ap, ◌∙◌, subst, ⊎_elim, arith, lt→ltb, length-append, get_or-set_other, get_or-set_same}
+use Rattle.std.proofs.Common.{◌≡◌, ℕ, ◌+◌, ◌-◌, ◌<◌, ◌≤◌, true, ltb, ◌≢◌, List, [], ◌∷◌, ◌++◌, length, get_or, set, sym, ap, ◌∙◌, subst, subst₂, ⊎_elim, arith, lt→ltb, length-append, get_or-set_other, get_or-set_same}
 use lib.ListN.{get_or-append}
 use lib.Seq.{get_or-append_seam}
 use Rattle.std.proofs.lemmas.Bool.{cases_eq, cases_lt}
@@ -118,23 +118,28 @@ module _ (xs : List Node) (tops : List Link) (chained : Chained xs tops) (wide :
         (cases_eq h (hash_of x es));
   }
 
--- the table with the record at the head of its chain is sound
-pub sound_more : {m : Meaning} {s : Shape} (xs : List Node) (tops : List Link) → Sound m s xs tops → length tops ≡ 1024 → (x : ℕ) (es : List Edge) → hash_of x es < 1024
-    → ((i : ℕ) → s.size x ≤ i → i < 4 → word_at es i ≡ 0)
-    → Reduced m s (nodes_in (xs ++ record { variable = x; edges = es; next = get_or tops (hash_of x es) none } ∷ []))
-    → Sound m s (xs ++ record { variable = x; edges = es; next = get_or tops (hash_of x es) none } ∷ []) (set tops (hash_of x es) (record { to = length xs + 1 }))
-sound_more {s} xs tops sound wide x es small fills red = record {
+-- the same of a record that was added, at its hash
+pub chained_pushed : {xs : List Node} {tops : List Link} → Chained xs tops → length tops ≡ 1024 → (x : ℕ) (es : List Edge) {h : ℕ} → h ≡ hash_of x es → h < 1024
+    → {n : ℕ} → n ≡ length xs → {ys : List Node} → ys ≡ xs ++ record { variable = x; edges = es; next = get_or tops h none } ∷ []
+    → Chained ys (set tops h (record { to = n + 1 }))
+chained_pushed {xs} {tops} chained wide x es {h} hash small {n} long grown =
+    subst₂ (λ (ys : List Node) (n : ℕ). Chained ys (set tops h (record { to = n + 1 }))) (sym grown) (sym long)
+    (subst (λ k. Chained (xs ++ record { variable = x; edges = es; next = get_or tops k none } ∷ []) (set tops k (record { to = length xs + 1 }))) (sym hash)
+    (chained_more xs tops chained wide x es (omega arith)))
+
+-- the table with the record is sound
+pub sound_more : {m : Meaning} {s : Shape} {xs : List Node} → Sound m s xs → (n : Node) → ((i : ℕ) → s.size n.variable ≤ i → i < 4 → word_at n.edges i ≡ 0)
+    → Reduced m s (nodes_in (xs ++ n ∷ [])) → Sound m s (xs ++ n ∷ [])
+sound_more {s} {xs} sound n fills red = record {
   reduced = red;
   fills = λ r i h b c.
-      let new : Node = record { variable = x; edges = es; next = get_or tops (hash_of x es) none } in
       ⊎_elim
       (λ (low : r < length xs).
-      let e = more_old xs new r low in
+      let e = more_old xs n r low in
       ap (λ (y : Node). word_at y.edges i) e ∙ sound.fills r i low (subst (λ (y : Node). s.size y.variable ≤ i) e b) c)
       (λ (high : length xs ≤ r).
-      let same : r ≡ length xs = omega (arith, more_length xs new) in
-      let e = ap (at (xs ++ new ∷ [])) same ∙ more_new xs new in
+      let same : r ≡ length xs = omega (arith, more_length xs n) in
+      let e = ap (at (xs ++ n ∷ [])) same ∙ more_new xs n in
       ap (λ (y : Node). word_at y.edges i) e ∙ fills i (subst (λ (y : Node). s.size y.variable ≤ i) e b) c)
       (cases_lt r (length xs));
-  chained = chained_more xs tops sound.chained wide x es small;
 }

@@ -1,5 +1,5 @@
 -- A node that is looked up or added is the one that was to be made. Assumes nothing.
-use Rattle.std.proofs.Common.{◌≡◌, ℕ, ◌+◌, ◌<◌, ◌≤◌, true, false, List, [], ◌∷◌, ◌++◌, length, get_or, take, set, Some, None, sym, refl, ap, ◌∙◌, subst, subst₂, ⊎_elim, arith}
+use Rattle.std.proofs.Common.{◌≡◌, ℕ, ◌<◌, ◌≤◌, true, false, List, [], ◌∷◌, ◌++◌, length, get_or, take, Some, None, sym, refl, ap, ◌∙◌, subst, subst₂, ⊎_elim, arith}
 use lib.Seq.{take-length, take-append_seam}
 use Rattle.std.proofs.lemmas.Bool.{cases_lt}
 use Rattle.mvl.specs.declared.refusal.Refusal.TheVariants.{NoRoom}
@@ -12,14 +12,14 @@ use Rattle.tables.specs.declared.parts.edge.Edge.{Edge}
 use Rattle.tables.specs.declared.parts.node.Link.{Link}
 use Rattle.tables.specs.declared.parts.node.Node.{Node}
 use Rattle.tables.specs.Edges.{arrow, arrows, unused}
-use Rattle.tables.specs.Records.{at, none, hash_of, nodes_in}
+use Rattle.tables.specs.Records.{at, nodes_in}
 use Rattle.tables.specs.Sounds.{Sound}
 use Rattle.tables.specs.Finds.{Finds, Alikes, Filled}
 use Rattle.tables.specs.Makes.{AsksNode, HasMade, LacksRoom}
 use Rattle.tables.proofs.Same.{arrow_apart, arrow_same, same_variable, same_words, words_same}
 use Rattle.tables.proofs.Appending.{has_record, more_adds, sound_more}
 
-module _ {m : Meaning} (l : Laws m) {s : Shape} (sl : ShapeLaws s) {xs : List Node} {tops : List Link} (sound : Sound m s xs tops) {x : ℕ} {es : List Edge}
+module _ {m : Meaning} (l : Laws m) {s : Shape} (sl : ShapeLaws s) {xs : List Node} (sound : Sound m s xs) {x : ℕ} {es : List Edge}
     (asks : AsksNode m s xs x es) where
   alike_is : Alikes es (s.size x) true → Alike (s.size x) (arrows es)
   alike_is all i h = arrow_same (get_or es i unused) (get_or es 0 unused) (all i h)
@@ -90,10 +90,5 @@ module _ {m : Meaning} (l : Laws m) {s : Shape} (sl : ShapeLaws s) {xs : List No
           grows = ap (take (length xs)) grown ∙ take-append_seam xs _;
         }
 
-      -- at the head of its chain
-      pub sound_added : length tops ≡ 1024 → {h : ℕ} → h ≡ hash_of x ns → h < 1024 → {ys : List Node} {us : List Link}
-          → ys ≡ xs ++ record { variable = x; edges = ns; next = get_or tops h none } ∷ [] → us ≡ set tops h (record { to = length xs + 1 }) → Sound m s ys us
-      sound_added wide {h} is small grown headed =
-          subst₂ (Sound m s) (sym grown) (sym headed)
-          (subst (λ (h : ℕ). Sound m s (xs ++ record { variable = x; edges = ns; next = get_or tops h none } ∷ []) (set tops h (record { to = length xs + 1 }))) (sym is)
-          (sound_more xs tops sound wide x ns (omega arith) filled.fills (fresh_makes (get_or tops (hash_of x ns) none)).reduced))
+        pub sound_added : {ys : List Node} → ys ≡ xs ++ record { variable = x; edges = ns; next = next } ∷ [] → Sound m s ys
+        sound_added grown = subst (Sound m s) (sym grown) (sound_more sound fresh filled.fills fresh_makes.reduced)

@@ -1,5 +1,5 @@
 -- What a table keeps holds in one way at most, so it comes out of its truncation. Assumes nothing.
-use Rattle.std.proofs.Common.{ℕ, List}
+use Rattle.std.proofs.Common.{List}
 use mathlib.Core.Logic.{∥∥₁_elim}
 use native.Mathlib.Bridge.{le_prop}
 use lib.Dec.{T_prop}
@@ -7,10 +7,8 @@ use std.HLevel.{⊥_prop}
 use Rattle.mvl.specs.Labels.{Meaning}
 use Rattle.diagrams.specs.Diagram.{Target, terminal, node, Edge as Arrow, Nodes, Stands, Over, Ordered, AtHome, Reduced}
 use Rattle.diagrams.specs.Shape.{Shape}
-use Rattle.tables.specs.Chains.{Latest, Chained}
 use Rattle.tables.specs.Sounds.{Sound}
 use Rattle.mvl.specs.Unique.{ℕ-prop}
-use Rattle.tables.specs.declared.parts.node.Link.{Link}
 use Rattle.tables.specs.declared.parts.node.Node.{Node}
 
 -- the four rules
@@ -44,26 +42,12 @@ Reduced-prop m s d x y = λ i. record {
 
 -- the records
 
-pub Latest-prop : (xs : List Node) (n h l : ℕ) → IsProp (Latest xs n h l)
-Latest-prop xs n h l x y = λ i. record {
-  early = le_prop x.early y.early i;
-  latest = λ q b e. le_prop (x.latest q b e) (y.latest q b e) i;
-  alike = λ b. ℕ-prop (x.alike b) (y.alike b) i;
-}
-
-pub Chained-prop : (xs : List Node) (tops : List Link) → IsProp (Chained xs tops)
-Chained-prop xs tops x y = λ i. record {
-  links = λ r h. Latest-prop xs _ _ _ (x.links r h) (y.links r h) i;
-  heads = λ k h. Latest-prop xs _ _ _ (x.heads k h) (y.heads k h) i;
-}
-
-module _ {m : Meaning} {s : Shape} {xs : List Node} {tops : List Link} where
-  pub Sound-prop : IsProp (Sound m s xs tops)
+module _ {m : Meaning} {s : Shape} {xs : List Node} where
+  pub Sound-prop : IsProp (Sound m s xs)
   Sound-prop x y = λ i. record {
     reduced = Reduced-prop m s _ x.reduced y.reduced i;
     fills = λ r k h b c. ℕ-prop (x.fills r k h b c) (y.fills r k h b c) i;
-    chained = Chained-prop xs tops x.chained y.chained i;
   }
 
-  pub sound_out : ∥ Sound m s xs tops ∥₁ → Sound m s xs tops
+  pub sound_out : ∥ Sound m s xs ∥₁ → Sound m s xs
   sound_out t = ∥∥₁_elim t Sound-prop (λ s. s)

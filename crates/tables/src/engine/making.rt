@@ -1,39 +1,18 @@
-//! A node is looked up in its chain, and made: normalised, looked up, added where it is missing.
+//! A node is made: normalised, looked up, added where it is missing.
 
-ghost use Rattle.std.specs.Prelude.{◌<◌};
 ghost use Rattle.mvl.specs.Charts.{chart_meaning};
 ghost use Rattle.tables.specs.Cards.{shape_of, capacity_of};
-ghost use Rattle.tables.specs.Stores.{items, heads};
-ghost use Rattle.tables.specs.Chains.{Chained};
+ghost use Rattle.tables.specs.Stores.{items};
 ghost use Rattle.tables.specs.Sounds.{Whole};
-ghost use Rattle.tables.specs.Finds.{Finds};
 ghost use Rattle.tables.specs.Makes.{AsksNode, MakesNode};
 
 use crate::engine::labels::inverse;
 use crate::engine::rows::{alike, turned};
 use crate::parts::card::Card;
 use crate::parts::edge::Edge;
-use crate::parts::node::{hash, same};
 use crate::parts::store::Store;
 use mvl::chart::Chart;
 use mvl::refusal::Refusal;
-
-/// The number of the node of this variable with these edges.
-pub(crate) fn find_in(store: &Store, variable: u8, edges: [Edge; 4]) -> Option<usize>
-    requires { Chained (items store.now) (heads store.now) }
-    ensures { Finds (items store.now) variable edges result }
-{
-    let mut link = store.heads[hash(variable, edges)].to;
-    while link > 0 {
-        let r = (link - 1) as usize;
-        let node = store.read(r);
-        if same(node, variable, edges) {
-            return Some(r);
-        }
-        link = node.next.to;
-    }
-    None
-}
 
 /// The edge to what reads `edges` at the values of `x`.
 pub(crate) fn make_in(
@@ -54,13 +33,13 @@ pub(crate) fn make_in(
     }
     let label = edges[0].label();
     let normal = turned(chart, inverse(chart, label), edges, size);
-    if let Some(r) = find_in(store, x, normal) {
+    if let Some(r) = store.find(x, normal) {
         return Ok(Edge::to(label, (r + 4) as u16));
     }
     let r = store.len();
     if r >= card.capacity {
         return Err(Refusal::NoRoom);
     }
-    store.push(hash(x, normal), x, normal);
+    store.push(x, normal);
     Ok(Edge::to(label, (r + 4) as u16))
 }

@@ -1,6 +1,8 @@
 //! The store of a table.
 
-ghost use Rattle.std.specs.Prelude.{◌≡◌, ◌≤◌, length, vec_len, vec_capacity};
+ghost use Rattle.std.specs.Prelude.{◌≡◌, ◌≤◌, length, vec_len, vec_capacity, vec_items};
+ghost use Rattle.tables.specs.Chains.{Chained};
+ghost use Rattle.tables.specs.Unique.{Chained-prop};
 
 use crate::parts::node::{Link, Node};
 
@@ -13,4 +15,5 @@ pub(crate) struct Store {
     ghost within: { vec_len nodes ≤ limit },
     ghost wide: { length heads ≡ 1024 },
     ghost room: { limit ≤ vec_capacity nodes },
+    ghost chained: { Chained (vec_items nodes) heads } by { Chained-prop (vec_items nodes) heads },
 }

@@ -1,9 +1,8 @@
 //! A store is opened, read, added to and cut.
 
-ghost use Rattle.std.specs.Prelude.{◌≡◌, ◌+◌, ◌-◌, ◌<◌, ◌≤◌, [], ◌∷◌, ◌++◌, length, take, IfOk, slice_index_or, slice_set};
-ghost use Rattle.tables.specs.Records.{at, none};
-ghost use Rattle.tables.specs.Stores.{items, heads, Opened};
-ghost use Rattle.tables.specs.Chains.{Chained};
+ghost use Rattle.std.specs.Prelude.{◌≡◌, ◌-◌, ◌<◌, ◌≤◌, [], ◌∷◌, ◌++◌, length, take, IfOk, slice_index_or};
+ghost use Rattle.tables.specs.Records.{at, none, hash_of};
+ghost use Rattle.tables.specs.Stores.{items, Opened};
 
 use crate::parts::edge::Edge;
 use crate::parts::node::{Link, Node, hash};
@@ -36,15 +35,14 @@ impl Store {
         self.nodes[i]
     }
 
-    /// One record more, at the head of chain h.
-    pub(crate) fn push(&mut self, h: usize, variable: u8, edges: [Edge; 4])
+    /// One record more, at the head of its chain.
+    pub(crate) fn push(&mut self, variable: u8, edges: [Edge; 4])
         requires room { length (items self.old) < self.old.limit }
         requires small { self.old.limit ≤ 2000 }
-        requires chain { h < 1024 }
         ensures limit { self.new.limit ≡ self.old.limit }
-        ensures items { items self.new ≡ items self.old ++ record { variable = variable; edges = edges; next = slice_index_or self.old.heads h none } ∷ [] }
-        ensures heads { self.new.heads ≡ slice_set self.old.heads h (record { to = length (items self.old) + 1 }) }
+        ensures items { items self.new ≡ items self.old ++ record { variable = variable; edges = edges; next = slice_index_or self.old.heads (hash_of variable edges) none } ∷ [] }
     {
+        let h = hash(variable, edges);
         let next = self.heads[h];
         let to = (self.nodes.len() + 1) as u16;
         self.nodes.push_reserved(Node {
@@ -57,11 +55,9 @@ impl Store {
 
     /// The last record, taken back.
     fn pop(&mut self)
-        requires some { 0 < length (items self.old) }
-        requires chained { Chained (items self.old) (heads self.old) }
+        requires { 0 < length (items self.old) }
         ensures limit { self.new.limit ≡ self.old.limit }
         ensures items { items self.new ≡ take (length (items self.old) - 1) (items self.old) }
-        ensures chained { Chained (items self.new) (heads self.new) }
     {
         let r = self.nodes.len() - 1;
         let node = self.read(r);
@@ -72,11 +68,9 @@ impl Store {
 
     /// The records from the end, taken back to a length.
     pub(crate) fn cut(&mut self, len: usize)
-        requires within { len ≤ length (items self.old) }
-        requires chained { Chained (items self.old) (heads self.old) }
+        requires { len ≤ length (items self.old) }
         ensures limit { self.new.limit ≡ self.old.limit }
         ensures items { items self.new ≡ take len (items self.old) }
-        ensures chained { Chained (items self.new) (heads self.new) }
     {
         while self.len() > len {
             self.pop();

@@ -4,7 +4,7 @@ use Rattle.mvl.specs.Charts.{chart_meaning}
 use Rattle.mvl.specs.Charted.{chart_laws}
 use Rattle.diagrams.specs.Diagram.{node}
 use Rattle.diagrams.proofs.Reading.Edges.{edge_same}
-use Rattle.tables.specs.Records.{none}
+use Rattle.tables.specs.Records.{none, hash_of}
 use Rattle.tables.proofs.Goals.{goal_of}
 use Rattle.tables.proofs.CardFacts.{shape_laws_of}
 use Rattle.tables.proofs.NodeMade.{made_alike, made_present, made_refused, made_added, sound_added}
@@ -38,15 +38,14 @@ pub returns : goal.returns
 returns c =
     let l = chart_laws c.args.chart.now in
     let sl = shape_laws_of c.args.card.now in
-    let S = c.args.store.now in
+    let next = get_or c.args.store.now.heads (hash_of c.args.x c.turned-normal.result) none in
     let back = c.inverse.ensures.value ∙ ap (inverse (chart_meaning c.args.chart.now)) c.label-label.ensures.value in
     let same = c.to-2.ensures ∙ edge_same c.label-label.ensures.value (goal_of c.len-r.result ∙ ap node c.len-r.ensures) in
     record {
       whole = record {
         room = c.push.ensures.limit ∙ c.requires.whole.room;
-        sound = sound_added l sl c.requires.whole.sound c.requires.asks back c.turned-normal.ensures c.if-alike.ensures c.in_default.ensures
-            S.wide c.hash.ensures.value c.hash.ensures.bound c.push.ensures.items c.push.ensures.heads;
+        sound = sound_added l sl c.requires.whole.sound c.requires.asks back c.turned-normal.ensures c.if-alike.ensures c.in_default.ensures next c.push.ensures.items;
       };
       makes = made_added l sl c.requires.whole.sound c.requires.asks back c.turned-normal.ensures c.if-alike.ensures c.in_default.ensures
-          (get_or S.heads c.hash.result none) c.push.ensures.items same;
+          next c.push.ensures.items same;
     }

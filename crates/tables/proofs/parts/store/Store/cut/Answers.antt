@@ -4,7 +4,7 @@ use Rattle.tables.specs.Stores.{items}
 use Rattle.tables.proofs.parts.store.Store.cut.Goals as goal
 
 pub loop-self-init : goal.loop-self-init
-loop-self-init c = (sym (take-length (items c.args.self.now)), c.requires.within, refl, c.requires.chained)
+loop-self-init c = (sym (take-length (items c.args.self.now)), c.requires, refl)
 
 pub loop-self-preserved : goal.loop-self-preserved
 loop-self-preserved c =
@@ -15,5 +15,4 @@ loop-self-preserved c =
       c.pop.ensures.items ∙ ap (take (n - 1)) c.loop-self.invariant.0 ∙ take-take (n - 1) n (items c.args.self.now) down ∙ ap (λ k. take k (items c.args.self.now)) (sym long),
       omega arith,
       c.pop.ensures.limit ∙ c.loop-self.invariant.2,
-      c.pop.ensures.chained,
     )

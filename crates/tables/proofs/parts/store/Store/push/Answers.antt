@@ -1,0 +1,11 @@
+use Rattle.std.proofs.Common.{◌∙◌, arith, length-set}
+use Rattle.tables.proofs.Appending.{chained_pushed}
+use Rattle.tables.proofs.parts.store.Store.push.Goals as goal
+
+pub invariant_of-self-clause-wide : goal.invariant_of-self-clause-wide
+invariant_of-self-clause-wide c = length-set c.args.self.now.heads c.hash-h.result _ ∙ c.args.self.now.wide
+
+pub invariant_of-self-clause-chained : goal.invariant_of-self-clause-chained
+invariant_of-self-clause-chained c =
+    let S = c.args.self.now in
+    chained_pushed S.chained S.wide c.args.variable c.args.edges c.hash-h.ensures.value c.hash-h.ensures.bound (omega (arith, c.len.ensures, S.nodes.ok.0)) c.push_reserved.ensures.items
