@@ -1,5 +1,5 @@
 -- A walk in a loop, turn by turn: what holds of the store and the frames. Assumes nothing.
-use Rattle.std.proofs.Common.{◌≡◌, ℕ, suc, ◌+◌, ◌-◌, ◌%◌, ◌<◌, ◌≤◌, min, List, [], length, get_or, take, set, sym, ap, ◌∙◌, subst, add-one, arith, length-set, length-take, get_or-set_other, get_or-set_same, take-take}
+use Rattle.std.proofs.Common.{◌≡◌, ℕ, suc, ◌+◌, ◌-◌, ◌<◌, ◌≤◌, min, List, [], length, get_or, take, set, sym, ap, ◌∙◌, subst, add-one, arith, length-set, length-take, get_or-set_other, get_or-set_same, take-take}
 use lib.Seq.{take-length}
 use Rattle.mvl.specs.Charts.{chart_meaning}
 use Rattle.mvl.specs.declared.chart.Chart.{Chart}
@@ -25,7 +25,6 @@ use Rattle.tables.specs.Stores.{items}
 use Rattle.tables.specs.Sounds.{Whole, Grows}
 use Rattle.tables.specs.Makes.{AsksNode, HasMade, LacksRoom}
 use Rattle.tables.specs.Walks.{task_of, Begins, Extended, Leads, Gained, Short}
-use Rattle.tables.proofs.Goals.{goal_node}
 use Rattle.tables.proofs.CardFacts.{shape_laws_of}
 use Rattle.tables.proofs.Appending.{population_is, has_record}
 
@@ -84,7 +83,7 @@ leads : {chart : Chart} {card : Card} {store : Store} → Whole chart card store
 leads {chart} {card} {store} whole x i e hi of =
     let xs = items store in
     record {
-      within = λ h. (subst (Stands (chart_meaning chart) (nodes_in xs)) (goal_node (e.word % 16384) h) of.over.stands).0;
+      within = λ r is. (subst (Stands (chart_meaning chart) (nodes_in xs)) is of.over.stands).0;
       label = of.over.label_within;
       labels = λ r h is. (whole.sound.reduced.ordered.over r i (has_record xs r h) (subst (λ y. i < get_or card.sizes y 0) (sym is) hi)).label_within;
     }

@@ -7,3 +7,4 @@ pub(crate) mod finding;
 pub(crate) mod node;
 pub(crate) mod store;
 pub(crate) mod storing;
+pub(crate) mod target;

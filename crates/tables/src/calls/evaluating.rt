@@ -12,6 +12,7 @@ use crate::calls::holding::Diagrams;
 use crate::calls::reading::Reading;
 use crate::engine::labels::{carry, product};
 use crate::parts::edge::Edge;
+use crate::parts::target::Target;
 use mvl::refusal::Refusal;
 
 impl Diagrams {
@@ -26,16 +27,22 @@ impl Diagrams {
         let mut label = e.label();
         let mut target = e.target();
         let mut visited = 0u8;
-        while target >= 4 {
-            let node = self.store.read((target - 4) as usize);
-            let value = assignment[node.variable as usize];
-            let edge = node.edges[value as usize];
-            label = product(&self.chart, label, edge.label());
-            target = edge.target();
-            visited += 1;
+        loop {
+            match target {
+                Target::Terminal(v) => {
+                    let value = carry(&self.chart, label, v);
+                    return Reading { value, visited };
+                }
+                Target::Node(r) => {
+                    let node = self.store.read(r);
+                    let value = assignment[node.variable as usize];
+                    let edge = node.edges[value as usize];
+                    label = product(&self.chart, label, edge.label());
+                    target = edge.target();
+                    visited += 1;
+                }
+            }
         }
-        let value = carry(&self.chart, label, target as u8);
-        Reading { value, visited }
     }
 
     pub(crate) fn evaluate(&self, e: Edge, assignment: &[u8]) -> Result<Reading, Refusal>

@@ -9,7 +9,8 @@ use mvl::chart::Chart;
 pub(crate) fn carry(chart: &Chart, k: u8, v: u8) -> u8
     requires label { k < chart.now.labels }
     requires value { v < chart.now.radix }
-    ensures { result ≡ (chart_meaning chart.now).carry k v }
+    ensures value { result ≡ (chart_meaning chart.now).carry k v }
+    ensures bound { result < chart.now.radix }
 {
     chart.carries[(4 * k + v) as usize]
 }

@@ -11,6 +11,7 @@ use crate::engine::rows::{alike, turned};
 use crate::parts::card::Card;
 use crate::parts::edge::Edge;
 use crate::parts::store::Store;
+use crate::parts::target::Target;
 use mvl::chart::Chart;
 use mvl::refusal::Refusal;
 
@@ -34,12 +35,12 @@ pub(crate) fn make_in(
     let label = edges[0].label();
     let normal = turned(chart, inverse(chart, label), edges, size);
     if let Some(r) = store.find(x, normal) {
-        return Ok(Edge::to(label, (r + 4) as u16));
+        return Ok(Edge::to(label, Target::Node(r)));
     }
     let r = store.len();
     if r >= card.capacity {
         return Err(Refusal::NoRoom);
     }
     store.push(x, normal);
-    Ok(Edge::to(label, (r + 4) as u16))
+    Ok(Edge::to(label, Target::Node(r)))
 }

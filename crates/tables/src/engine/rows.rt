@@ -9,6 +9,7 @@ ghost use Rattle.tables.specs.Finds.{Alikes, Filled};
 
 use crate::engine::labels::{home, home_label, product};
 use crate::parts::edge::Edge;
+use crate::parts::target::Target;
 use mvl::chart::Chart;
 
 /// Whether the first edges, as many as a variable's size, are one.
@@ -44,7 +45,7 @@ pub(crate) fn constant_edge(chart: &Chart, v: u8) -> Edge
     requires { v < chart.now.radix }
     ensures { arrow result ≡ constant_edge (chart_meaning chart.now) v }
 {
-    Edge::to(home_label(chart, v), home(chart, v) as u16)
+    Edge::to(home_label(chart, v), Target::Terminal(home(chart, v)))
 }
 
 /// The edge of each value below a size, and the others unused.

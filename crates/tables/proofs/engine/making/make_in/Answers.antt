@@ -1,11 +1,10 @@
-use Rattle.std.proofs.Common.{get_or, ap, ◌∙◌, arith}
+use Rattle.std.proofs.Common.{get_or, refl, ap, ◌∙◌, arith}
 use Rattle.mvl.specs.Labels.{inverse}
 use Rattle.mvl.specs.Charts.{chart_meaning}
 use Rattle.mvl.specs.Charted.{chart_laws}
 use Rattle.diagrams.specs.Diagram.{node}
 use Rattle.diagrams.proofs.Reading.Edges.{edge_same}
 use Rattle.tables.specs.Records.{none, hash_of}
-use Rattle.tables.proofs.Goals.{goal_of}
 use Rattle.tables.proofs.CardFacts.{shape_laws_of}
 use Rattle.tables.proofs.NodeMade.{made_alike, made_present, made_refused, made_added, sound_added}
 use Rattle.tables.proofs.engine.making.make_in.Goals as goal
@@ -21,7 +20,7 @@ returns-in-Some c =
     let l = chart_laws c.args.chart.now in
     let sl = shape_laws_of c.args.card.now in
     let back = c.inverse.ensures.value ∙ ap (inverse (chart_meaning c.args.chart.now)) c.label-label.ensures.value in
-    let same = c.to.ensures ∙ edge_same c.label-label.ensures.value (goal_of c.in-Some.r) in
+    let same = c.to.ensures ∙ edge_same c.label-label.ensures.value refl in
     record { whole = c.requires.whole; makes = made_present l sl c.requires.whole.sound c.requires.asks back c.turned-normal.ensures c.in-Some.ensures same }
 
 pub returns-then-r-card : goal.returns-then-r-card
@@ -40,7 +39,7 @@ returns c =
     let sl = shape_laws_of c.args.card.now in
     let next = get_or c.args.store.now.heads (hash_of c.args.x c.turned-normal.result) none in
     let back = c.inverse.ensures.value ∙ ap (inverse (chart_meaning c.args.chart.now)) c.label-label.ensures.value in
-    let same = c.to-2.ensures ∙ edge_same c.label-label.ensures.value (goal_of c.len-r.result ∙ ap node c.len-r.ensures) in
+    let same = c.to-2.ensures ∙ edge_same c.label-label.ensures.value (ap node c.len-r.ensures) in
     record {
       whole = record {
         room = c.push.ensures.limit ∙ c.requires.whole.room;
