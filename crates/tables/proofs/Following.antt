@@ -58,22 +58,22 @@ module _ (D : Diagrams) {e : Arrow} {a : ℕ → ℕ} (assigns : Assignment (sha
 
     -- the same of a record that was read
     module _ {x : Node} (is : x ≡ at (items D.store) r) where
-      pub read_variable : x.variable < D.card.n
-      read_variable = subst (λ (y : Node). y.variable < D.card.n) (sym is) variable_low
+      pub read_variable : x.key.variable < D.card.n
+      read_variable = subst (λ (y : Node). y.key.variable < D.card.n) (sym is) variable_low
 
-      pub read_value : a x.variable < 4
+      pub read_value : a x.key.variable < 4
       read_value =
-          subst (λ (y : Node). a y.variable < 4) (sym is)
+          subst (λ (y : Node). a y.key.variable < 4) (sym is)
           (omega (arith, value_low, (shape_laws D).size_high ((nodes_of D).variable r) variable_low))
 
-      pub read_label : word_at x.edges (a x.variable) / 16384 < D.chart.labels
-      read_label = subst (λ (y : Node). word_at y.edges (a y.variable) / 16384 < D.chart.labels) (sym is) over_taken.label_within
+      pub read_label : word_at x.key.edges (a x.key.variable) / 16384 < D.chart.labels
+      read_label = subst (λ (y : Node). word_at y.key.edges (a y.key.variable) / 16384 < D.chart.labels) (sym is) over_taken.label_within
 
-      pub read_on : {label' : ℕ} {t : Target} → label' ≡ product (meaning_of D) label (word_at x.edges (a x.variable) / 16384)
-          → t ≡ (arrows x.edges (a x.variable)).target → Following D e a label' t (visited + 1)
+      pub read_on : {label' : ℕ} {t : Target} → label' ≡ product (meaning_of D) label (word_at x.key.edges (a x.key.variable) / 16384)
+          → t ≡ (arrows x.key.edges (a x.key.variable)).target → Following D e a label' t (visited + 1)
       read_on l t =
           subst₂ (λ k g. Following D e a k g (visited + 1)) (sym l) (sym t)
-          (subst (λ (y : Node). Following D e a (product (meaning_of D) label (word_at y.edges (a y.variable) / 16384)) (arrows y.edges (a y.variable)).target (visited + 1)) (sym is) follow_on)
+          (subst (λ (y : Node). Following D e a (product (meaning_of D) label (word_at y.key.edges (a y.key.variable) / 16384)) (arrows y.key.edges (a y.key.variable)).target (visited + 1)) (sym is) follow_on)
 
   -- a terminal is reached
   module _ {v : ℕ} (f : Following D e a label (terminal v) visited) where

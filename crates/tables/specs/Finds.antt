@@ -1,14 +1,15 @@
 -- What a look-up answers, and rows of edges made from others. Assumes nothing.
-use Rattle.std.specs.Prelude.{◌≡◌, ℕ, ◌<◌, ◌≤◌, Bool, true, false, T, List, length, Some, None, Option}
+use Rattle.std.specs.Prelude.{◌≡◌, ℕ, ◌<◌, ◌≤◌, Bool, true, false, List, length, Some, None, Option}
 use Rattle.diagrams.specs.Diagram.{Edge as Arrow}
 use Rattle.tables.specs.declared.parts.edge.Edge.{Edge}
+use Rattle.tables.specs.declared.parts.key.Key.{Key}
 use Rattle.tables.specs.declared.parts.node.Node.{Node}
 use Rattle.tables.specs.Edges.{word_at, arrows}
-use Rattle.tables.specs.Records.{at, same_node}
+use Rattle.tables.specs.Records.{at, SameKey}
 
-abbrev pub Finds : List Node → ℕ → List Edge → Option ℕ → Type 0
-Finds xs x es (Some r) = (r < length xs) × T (same_node (at xs r) x es)
-Finds xs x es None = (q : ℕ) → q < length xs → T (same_node (at xs q) x es) → ⊥
+abbrev pub Finds : List Node → Key → Option ℕ → Type 0
+Finds xs k (Some r) = (r < length xs) × SameKey (at xs r).key k
+Finds xs k None = (q : ℕ) → q < length xs → SameKey (at xs q).key k → ⊥
 
 -- whether the first edges are one
 abbrev pub Alikes : List Edge → ℕ → Bool → Type 0

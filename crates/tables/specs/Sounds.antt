@@ -16,7 +16,7 @@ use Rattle.tables.specs.Stores.{items, limit_of}
 -- the four rules, and unused edges that are edge 0
 pub record Sound (m : Meaning) (s : Shape) (xs : List Node) : Type 0 where
   pub reduced : Reduced m s (nodes_in xs)
-  pub fills : (r i : ℕ) → r < length xs → s.size (at xs r).variable ≤ i → i < 4 → word_at (at xs r).edges i ≡ 0
+  pub fills : (r i : ℕ) → r < length xs → s.size (at xs r).key.variable ≤ i → i < 4 → word_at (at xs r).key.edges i ≡ 0
 
 -- a chart, a card and a store that belong together
 pub record Whole (chart : Chart) (card : Card) (store : Store) : Type 0 where

@@ -58,7 +58,7 @@ pub record Extended (f : Frame) (r : Edge) (g : Frame) : Type 0 where
 pub record Leads (chart : Chart) (xs : List Node) (x i : ℕ) (e : Edge) : Type 0 where
   pub within : (r : ℕ) → (arrow e).target ≡ node r → r < length xs
   pub label : e.word / 16384 < chart.labels
-  pub labels : (r : ℕ) → r < length xs → (at xs r).variable ≡ x → (arrows (at xs r).edges i).label < chart.labels
+  pub labels : (r : ℕ) → r < length xs → (at xs r).key.variable ≡ x → (arrows (at xs r).key.edges i).label < chart.labels
 
 -- an edge serves for the task, or it is taken apart at a variable
 abbrev pub ComesTo : Chart → Card → Store → Way → Task → Next → Type 0

@@ -4,6 +4,7 @@ pub mod card;
 pub(crate) mod cards;
 pub mod edge;
 pub(crate) mod finding;
+pub(crate) mod key;
 pub(crate) mod node;
 pub(crate) mod store;
 pub(crate) mod storing;

@@ -34,9 +34,9 @@ impl Diagrams {
                     return Reading { value, visited };
                 }
                 Target::Node(r) => {
-                    let node = self.store.read(r);
-                    let value = assignment[node.variable as usize];
-                    let edge = node.edges[value as usize];
+                    let key = self.store.read(r).key;
+                    let value = assignment[key.variable as usize];
+                    let edge = key.edges[value as usize];
                     label = product(&self.chart, label, edge.label());
                     target = edge.target();
                     visited += 1;

@@ -21,12 +21,12 @@ use mvl::chart::Chart;
 /// The place of an edge's target: a terminal stands below every variable.
 pub(crate) fn level(store: &Store, card: &Card, e: Edge) -> usize
     requires within { (r : ℕ) → (arrow e).target ≡ node r → r < length (items store.now) }
-    requires variables { (r : ℕ) → r < length (items store.now) → (at (items store.now) r).variable < card.now.n }
+    requires variables { (r : ℕ) → r < length (items store.now) → (at (items store.now) r).key.variable < card.now.n }
     ensures { result ≡ level_of (shape_of card.now) (nodes_in (items store.now)) (arrow e).target }
 {
     match e.target() {
         Target::Terminal(_) => card.n,
-        Target::Node(r) => card.place[store.read(r).variable as usize] as usize,
+        Target::Node(r) => card.place[store.read(r).key.variable as usize] as usize,
     }
 }
 
@@ -39,11 +39,11 @@ pub(crate) fn follow(store: &Store, chart: &Chart, x: u8, i: u8, e: Edge) -> Edg
     let Target::Node(r) = e.target() else {
         return e;
     };
-    let node = store.read(r);
-    if node.variable != x {
+    let key = store.read(r).key;
+    if key.variable != x {
         return e;
     }
-    let f = node.edges[i as usize];
+    let f = key.edges[i as usize];
     Edge::to(product(chart, e.label(), f.label()), f.target())
 }
 

@@ -10,6 +10,7 @@ use crate::engine::labels::inverse;
 use crate::engine::rows::{alike, turned};
 use crate::parts::card::Card;
 use crate::parts::edge::Edge;
+use crate::parts::key::Key;
 use crate::parts::store::Store;
 use crate::parts::target::Target;
 use mvl::chart::Chart;
@@ -34,13 +35,17 @@ pub(crate) fn make_in(
     }
     let label = edges[0].label();
     let normal = turned(chart, inverse(chart, label), edges, size);
-    if let Some(r) = store.find(x, normal) {
+    let key = Key {
+        variable: x,
+        edges: normal,
+    };
+    if let Some(r) = store.find(key) {
         return Ok(Edge::to(label, Target::Node(r)));
     }
     let r = store.len();
     if r >= card.capacity {
         return Err(Refusal::NoRoom);
     }
-    store.push(x, normal);
+    store.push(key);
     Ok(Edge::to(label, Target::Node(r)))
 }

@@ -4,8 +4,8 @@ ghost use Rattle.std.specs.Prelude.{◌≡◌, ◌-◌, ◌<◌, ◌≤◌, [], 
 ghost use Rattle.tables.specs.Records.{at, none, hash_of};
 ghost use Rattle.tables.specs.Stores.{items, Opened};
 
-use crate::parts::edge::Edge;
-use crate::parts::node::{Link, Node, hash};
+use crate::parts::key::Key;
+use crate::parts::node::{Link, Node};
 use crate::parts::store::Store;
 use std::alloc::{AllocError, Global};
 
@@ -36,20 +36,16 @@ impl Store {
     }
 
     /// One record more, at the head of its chain.
-    pub(crate) fn push(&mut self, variable: u8, edges: [Edge; 4])
+    pub(crate) fn push(&mut self, key: Key)
         requires room { length (items self.old) < self.old.limit }
         requires small { self.old.limit ≤ 2000 }
         ensures limit { self.new.limit ≡ self.old.limit }
-        ensures items { items self.new ≡ items self.old ++ record { variable = variable; edges = edges; next = slice_index_or self.old.heads (hash_of variable edges) none } ∷ [] }
+        ensures items { items self.new ≡ items self.old ++ record { key = key; next = slice_index_or self.old.heads (hash_of key) none } ∷ [] }
     {
-        let h = hash(variable, edges);
+        let h = key.hash();
         let next = self.heads[h];
         let to = (self.nodes.len() + 1) as u16;
-        self.nodes.push_reserved(Node {
-            variable,
-            edges,
-            next,
-        });
+        self.nodes.push_reserved(Node { key, next });
         self.heads[h] = Link { to };
     }
 
@@ -61,7 +57,7 @@ impl Store {
     {
         let r = self.nodes.len() - 1;
         let node = self.read(r);
-        let h = hash(node.variable, node.edges);
+        let h = node.key.hash();
         self.heads[h] = node.next;
         self.nodes.truncate(r);
     }

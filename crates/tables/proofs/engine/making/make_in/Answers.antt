@@ -37,7 +37,7 @@ pub returns : goal.returns
 returns c =
     let l = chart_laws c.args.chart.now in
     let sl = shape_laws_of c.args.card.now in
-    let next = get_or c.args.store.now.heads (hash_of c.args.x c.turned-normal.result) none in
+    let next = get_or c.args.store.now.heads (hash_of (record { variable = c.args.x; edges = c.turned-normal.result })) none in
     let back = c.inverse.ensures.value ∙ ap (inverse (chart_meaning c.args.chart.now)) c.label-label.ensures.value in
     let same = c.to-2.ensures ∙ edge_same c.label-label.ensures.value (ap node c.len-r.ensures) in
     record {

@@ -8,4 +8,4 @@ invariant_of-self-clause-wide c = length-set c.args.self.now.heads c.hash-h.resu
 pub invariant_of-self-clause-chained : goal.invariant_of-self-clause-chained
 invariant_of-self-clause-chained c =
     let S = c.args.self.now in
-    chained_pushed S.chained S.wide c.args.variable c.args.edges c.hash-h.ensures.value c.hash-h.ensures.bound (omega (arith, c.len.ensures, S.nodes.ok.0)) c.push_reserved.ensures.items
+    chained_pushed S.chained S.wide c.args.key c.hash-h.ensures.value c.hash-h.ensures.bound (omega (arith, c.len.ensures, S.nodes.ok.0)) c.push_reserved.ensures.items
