@@ -17,5 +17,4 @@ pub mod Following
 pub mod Unreadable
 pub mod Walking
 pub mod Looping
-pub mod Tabling
 pub mod Applying
