@@ -6,7 +6,7 @@ ghost use Rattle.diagrams.specs.Diagram.{value as valued, visits, Over};
 ghost use Rattle.tables.specs.Edges.{arrow};
 ghost use Rattle.tables.specs.Cards.{shape_of};
 ghost use Rattle.tables.specs.Did.{meaning_of, nodes_of, table_of};
-ghost use Rattle.tables.specs.Evaluates.{assigned, Evaluates};
+ghost use Rattle.tables.specs.Evaluates.{assigned, Allows, Evaluates};
 
 use crate::calls::holding::Diagrams;
 use crate::calls::reading::Reading;
@@ -45,6 +45,17 @@ impl Diagrams {
         }
     }
 
+    // Whether each value is below the size of its variable.
+    fn allows(&self, assignment: &[u8]) -> bool
+        requires { length assignment.now ≡ self.now.card.n }
+        ensures { Allows self.now.card assignment.now result }
+    {
+        assignment
+            .iter()
+            .zip(&self.card.sizes)
+            .all(|(value, size)| value < size)
+    }
+
     pub(crate) fn evaluate(&self, e: Edge, assignment: &[u8]) -> Result<Reading, Refusal>
         ensures { Evaluates (meaning_of self.now) (table_of self.now) (arrow e) assignment.now result }
     {
@@ -54,10 +65,8 @@ impl Diagrams {
         if assignment.len() != self.card.n {
             return Err(Refusal::WrongLength);
         }
-        for x in 0..self.card.n {
-            if assignment[x] >= self.card.sizes[x] {
-                return Err(Refusal::NoValue);
-            }
+        if !self.allows(assignment) {
+            return Err(Refusal::NoValue);
         }
         Ok(self.follow(e, assignment))
     }
