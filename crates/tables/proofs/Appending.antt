@@ -14,7 +14,7 @@ use Rattle.tables.specs.Records.{at, blank, none, hash_of, nodes_in}
 use Rattle.tables.specs.Chains.{hash_at, Latest, Chained}
 use Rattle.tables.specs.Sounds.{Sound}
 use Rattle.tables.specs.declared.parts.key.Key.{Key}
-use Rattle.tables.specs.declared.parts.node.Link.{Link}
+use Rattle.tables.specs.declared.parts.link.Link.{Link}
 use Rattle.tables.specs.declared.parts.node.Node.{Node}
 
 -- views of a row of records
@@ -120,10 +120,9 @@ module _ (xs : List Node) (tops : List Link) (chained : Chained xs tops) (wide :
 
 -- the same of a record that was added, at its hash
 pub chained_pushed : {xs : List Node} {tops : List Link} → Chained xs tops → length tops ≡ 1024 → (k : Key) {h : ℕ} → h ≡ hash_of k → h < 1024
-    → {n : ℕ} → n ≡ length xs → {ys : List Node} → ys ≡ xs ++ record { key = k; next = get_or tops h none } ∷ []
-    → Chained ys (set tops h (record { to = n + 1 }))
-chained_pushed {xs} {tops} chained wide k {h} hash small {n} long grown =
-    subst₂ (λ (ys : List Node) (n : ℕ). Chained ys (set tops h (record { to = n + 1 }))) (sym grown) (sym long)
+    → {l : Link} → l.to ≡ length xs + 1 → {ys : List Node} → ys ≡ xs ++ record { key = k; next = get_or tops h none } ∷ [] → Chained ys (set tops h l)
+chained_pushed {xs} {tops} chained wide k {h} hash small last grown =
+    subst₂ (λ (ys : List Node) (n : ℕ). Chained ys (set tops h (record { to = n }))) (sym grown) (sym last)
     (subst (λ h. Chained (xs ++ record { key = k; next = get_or tops h none } ∷ []) (set tops h (record { to = length xs + 1 }))) (sym hash)
     (chained_more xs tops chained wide k (omega arith)))
 

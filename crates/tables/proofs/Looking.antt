@@ -1,8 +1,8 @@
 -- A chain followed from its head. Assumes nothing.
-use Rattle.std.proofs.Common.{◌≡◌, ℕ, ◌-◌, ◌<◌, ◌≤◌, List, length, get_or, sym, ◌∙◌, subst, ⊎_elim, arith}
+use Rattle.std.proofs.Common.{◌≡◌, ℕ, ◌+◌, ◌-◌, ◌<◌, ◌≤◌, List, length, get_or, sym, ◌∙◌, subst, ⊎_elim, arith}
 use Rattle.std.proofs.lemmas.Bool.{cases_eq, cases_lt}
 use Rattle.tables.specs.declared.parts.key.Key.{Key}
-use Rattle.tables.specs.declared.parts.node.Link.{Link}
+use Rattle.tables.specs.declared.parts.link.Link.{Link}
 use Rattle.tables.specs.declared.parts.node.Node.{Node}
 use Rattle.tables.specs.Records.{at, none, hash_of, SameKey}
 use Rattle.tables.specs.Chains.{hash_at, Latest, Chained}
@@ -25,28 +25,33 @@ module _ {xs : List Node} {tops : List Link} (chained : Chained xs tops) (k : Ke
         passed = λ q low b t. let c = top.latest q b (same_hash t) in omega arith;
       }
 
-  -- a record of the chain that was read, and is another
-  module _ {l : ℕ} (some : 0 < l) (left : Left xs k l) {n : Node} (is : n ≡ at xs (l - 1)) where
-    before : l - 1 < length xs
+  -- a record of the chain
+  module _ {l : ℕ} (r : ℕ) (here : l ≡ r + 1) (left : Left xs k l) where
+    pub before : r < length xs
     before = omega (arith, left.early)
 
-    pub left_less : n.next.to < l
-    left_less = subst (λ (y : Node). y.next.to < l) (sym is) (omega (arith, (chained.links (l - 1) before).early))
+    alike : hash_at xs r ≡ hash_of k
+    alike = let z : l - 1 ≡ r = omega arith in rw z at left.alike (omega arith)
 
-    pub left_more : (SameKey n.key k → ⊥) → Left xs k n.next.to
-    left_more other =
-        let link = chained.links (l - 1) before in
-        let unlike : SameKey (at xs (l - 1)).key k → ⊥ = subst (λ (y : Node). SameKey y.key k → ⊥) is other in
-        subst (λ (y : Node). Left xs k y.next.to) (sym is) (record {
-          early = omega (arith, link.early, left.early);
-          alike = λ h. link.alike h ∙ left.alike some;
-          passed = λ q low h t.
-              ⊎_elim
-              (λ (e : q ≡ l - 1). unlike (subst (λ p. SameKey (at xs p).key k) e t))
-              (λ f.
-              ⊎_elim
-              (λ (b : q < l). let c = link.latest q (omega arith) (same_hash t ∙ sym (left.alike some)) in omega arith)
-              (λ (b : l ≤ q). left.passed q b h t)
-              (cases_lt q l))
-              (cases_eq q (l - 1));
-        })
+    -- that was read, and is another
+    module _ {n : Node} (is : n ≡ at xs r) where
+      pub left_less : n.next.to < l
+      left_less = subst (λ (y : Node). y.next.to < l) (sym is) (omega (arith, (chained.links r before).early))
+
+      pub left_more : (SameKey n.key k → ⊥) → Left xs k n.next.to
+      left_more other =
+          let link = chained.links r before in
+          let unlike : SameKey (at xs r).key k → ⊥ = subst (λ (y : Node). SameKey y.key k → ⊥) is other in
+          subst (λ (y : Node). Left xs k y.next.to) (sym is) (record {
+            early = omega (arith, link.early, left.early);
+            alike = λ h. link.alike h ∙ alike;
+            passed = λ q low h t.
+                ⊎_elim
+                (λ (e : q ≡ r). unlike (subst (λ p. SameKey (at xs p).key k) e t))
+                (λ f.
+                ⊎_elim
+                (λ (b : q < l). let c = link.latest q (omega arith) (same_hash t ∙ sym alike) in omega arith)
+                (λ (b : l ≤ q). left.passed q b h t)
+                (cases_lt q l))
+                (cases_eq q r);
+          })

@@ -9,7 +9,7 @@ use Rattle.diagrams.specs.Diagram.{node, Edge as Arrow, edge_to, turned}
 use Rattle.diagrams.specs.Make.{Adds, Alike, normal, Made, Makes}
 use Rattle.diagrams.proofs.Build.Make.{makes_alike, makes_present, makes_added}
 use Rattle.tables.specs.declared.parts.edge.Edge.{Edge}
-use Rattle.tables.specs.declared.parts.node.Link.{Link}
+use Rattle.tables.specs.declared.parts.link.Link.{Link}
 use Rattle.tables.specs.declared.parts.node.Node.{Node}
 use Rattle.tables.specs.Edges.{arrow, arrows, unused}
 use Rattle.tables.specs.Records.{at, nodes_in}

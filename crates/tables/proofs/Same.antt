@@ -1,10 +1,10 @@
 -- Records that are the same. Assumes nothing.
-use Rattle.std.proofs.Common.{◌≡◌, ℕ, suc, ◌-◌, ◌/◌, ◌%◌, ◌<◌, ◌≤◌, ◌⊎◌, ◌≢◌, Bool, T, true, false, eqb, ◌&&◌, List, [], ◌∷◌, length, take, sym, ap, ◌∙◌, inl, inr, arith, length-take-le, get_or-take}
+use Rattle.std.proofs.Common.{◌≡◌, ℕ, zero, suc, ◌-◌, ◌/◌, ◌%◌, ◌<◌, ◌≤◌, ◌⊎◌, ◌≢◌, Bool, T, true, false, eqb, ◌&&◌, List, [], ◌∷◌, length, take, sym, refl, ap, ◌∙◌, inl, inr, arith, eqb→eq, length-take-le, get_or-take}
 use Rattle.std.specs.Bool.{MatchBool}
 use Rattle.std.specs.List.{AllWithin, HoldsAt}
 use lib.Pointwise.{pointwise}
 use Rattle.std.proofs.lemmas.Bool.{cases_lt}
-use Rattle.mvl.specs.Tests.{and_both, equal_passes}
+use Rattle.mvl.specs.Tests.{passed, and_left, and_right, and_both, equal_passes}
 use Rattle.diagrams.specs.Diagram.{terminal, node, Edge as Arrow}
 use Rattle.tables.specs.Edges.{goal, arrow, unused, word_at}
 use Rattle.tables.specs.Records.{hash_of, SameKey}
@@ -57,12 +57,26 @@ pub other_key : {k l : Key} → length k.edges ≡ 4 → length l.edges ≡ 4
 other_key {k} {l} four four' other s =
     failed other (and_both (eqb k.variable l.variable) _ (equal_passes s.variable) (same_words k.edges l.edges (omega arith) (λ i h. s.edges i (omega arith))))
 
+-- where it says yes, they are
+words_of : (es fs : List Edge) → T (pointwise (λ (e f : Edge). eqb e.word f.word) es fs) → (i : ℕ) → word_at es i ≡ word_at fs i
+words_of [] [] t i = refl
+words_of [] (f ∷ fs) t i = absurd t
+words_of (e ∷ es) [] t i = absurd t
+words_of (e ∷ es) (f ∷ fs) t zero = eqb→eq e.word f.word (and_left (eqb e.word f.word) _ t)
+words_of (e ∷ es) (f ∷ fs) t (suc i) = words_of es fs (and_right (eqb e.word f.word) _ t) i
+
+pub same_key : {k l : Key} → true ≡ (eqb k.variable l.variable && pointwise (λ (e f : Edge). eqb e.word f.word) k.edges l.edges) → SameKey k l
+same_key {k} {l} same = record {
+  variable = eqb→eq k.variable l.variable (and_left (eqb k.variable l.variable) _ (passed (sym same)));
+  edges = λ i h. words_of k.edges l.edges (and_right (eqb k.variable l.variable) _ (passed (sym same))) i;
+}
+
 -- what a test of the first edges, one after the other, says of them
 pub alikes : (es : List Edge) (size : ℕ) (r : Bool) → size ≤ length es
     → MatchBool r (AllWithin (λ (e : Edge). e.word ≡ word_at es 0) (take size es) 0 (length (take size es))) ((k : ℕ) × (k < length (take size es)) × HoldsAt (λ (e : Edge). e.word ≢ word_at es 0) (take size es) k)
     → Alikes es size r
 alikes es size true fit all = λ i h.
-    ap (λ (e : Edge). e.word) (sym (get_or-take size es i unused h)) ∙ all i unused (omega arith) (omega (arith, length-take-le size es fit))
+    ap (λ (e : Edge). e.word) (sym (get_or-take size es i unused h)) ∙ all i unused (omega arith) (omega (arith, eqb→eq, length-take-le size es fit))
 alikes es size false fit (k, h, other) = λ all.
-    let low : k < size = omega (arith, length-take-le size es fit) in
+    let low : k < size = omega (arith, eqb→eq, length-take-le size es fit) in
     other unused (ap (λ (e : Edge). e.word) (get_or-take size es k unused low) ∙ all k low)

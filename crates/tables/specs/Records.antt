@@ -1,13 +1,18 @@
 -- The records of nodes. Assumes nothing.
-use Rattle.std.specs.Prelude.{◌≡◌, ℕ, ◌+◌, ◌*◌, ◌/◌, ◌%◌, ◌<◌, List, [], length, nat_lt, slice_index_or}
+use Rattle.std.specs.Prelude.{◌≡◌, ℕ, ◌+◌, ◌*◌, ◌/◌, ◌%◌, ◌<◌, List, [], length, nat_lt, slice_index_or, Some, None, Option}
 use Rattle.diagrams.specs.Diagram.{Nodes}
 use Rattle.tables.specs.declared.parts.key.Key.{Key}
-use Rattle.tables.specs.declared.parts.node.Link.{Link}
+use Rattle.tables.specs.declared.parts.link.Link.{Link}
 use Rattle.tables.specs.declared.parts.node.Node.{Node}
 use Rattle.tables.specs.Edges.{word_at, arrows}
 
 abbrev pub none : Link
 none = record { to = 0 }
+
+-- what a link leads to: 0 is none, 1 + r is record r
+abbrev pub LeadsTo : Link → Option ℕ → Type 0
+LeadsTo l None = l.to ≡ 0
+LeadsTo l (Some r) = l.to ≡ r + 1
 
 abbrev pub blank : Node
 blank = record { key = record { variable = 0; edges = [] }; next = none }

@@ -2,7 +2,7 @@
 use Rattle.std.specs.Prelude.{ℕ, List}
 use Rattle.std.proofs.Math.Bridge.{le_prop}
 use Rattle.mvl.specs.Unique.{ℕ-prop}
-use Rattle.tables.specs.declared.parts.node.Link.{Link}
+use Rattle.tables.specs.declared.parts.link.Link.{Link}
 use Rattle.tables.specs.declared.parts.node.Node.{Node}
 use Rattle.tables.specs.Chains.{Latest, Chained}
 

@@ -5,6 +5,7 @@ pub(crate) mod cards;
 pub mod edge;
 pub(crate) mod finding;
 pub(crate) mod key;
+pub(crate) mod link;
 pub(crate) mod node;
 pub(crate) mod store;
 pub(crate) mod storing;

@@ -12,14 +12,13 @@ impl Store {
     pub(crate) fn find(&self, key: Key) -> Option<usize>
         ensures { Finds (items self.now) key result }
     {
-        let mut link = self.heads[key.hash()].to;
-        while link > 0 {
-            let r = (link - 1) as usize;
+        let mut link = self.heads[key.hash()];
+        while let Some(r) = link.record() {
             let node = self.read(r);
             if node.key == key {
                 return Some(r);
             }
-            link = node.next.to;
+            link = node.next;
         }
         None
     }

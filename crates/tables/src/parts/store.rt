@@ -4,7 +4,8 @@ ghost use Rattle.std.specs.Prelude.{◌≡◌, ◌≤◌, length, vec_len, vec_c
 ghost use Rattle.tables.specs.Chains.{Chained};
 ghost use Rattle.tables.specs.Unique.{Chained-prop};
 
-use crate::parts::node::{Link, Node};
+use crate::parts::link::Link;
+use crate::parts::node::Node;
 
 /// The records of the nodes, in memory that is reserved when the table is opened, and the heads of the chains by which they are found.
 #[derive(Drop)]

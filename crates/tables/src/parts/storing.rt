@@ -5,7 +5,8 @@ ghost use Rattle.tables.specs.Records.{at, none, hash_of};
 ghost use Rattle.tables.specs.Stores.{items, Opened};
 
 use crate::parts::key::Key;
-use crate::parts::node::{Link, Node};
+use crate::parts::link::Link;
+use crate::parts::node::Node;
 use crate::parts::store::Store;
 use std::alloc::{AllocError, Global};
 
@@ -14,7 +15,7 @@ impl Store {
         ensures { IfOk result (λ s. Opened limit s) }
     {
         let nodes = Vec::with_capacity(heap, limit)?;
-        let heads = [Link { to: 0 }; 1024];
+        let heads = [Link::NONE; 1024];
         Ok(Store {
             nodes,
             heads,
@@ -44,9 +45,9 @@ impl Store {
     {
         let h = key.hash();
         let next = self.heads[h];
-        let to = (self.nodes.len() + 1) as u16;
+        let link = Link::new(self.nodes.len());
         self.nodes.push_reserved(Node { key, next });
-        self.heads[h] = Link { to };
+        self.heads[h] = link;
     }
 
     /// The last record, taken back.

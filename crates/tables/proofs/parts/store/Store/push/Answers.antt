@@ -1,4 +1,5 @@
-use Rattle.std.proofs.Common.{◌∙◌, arith, length-set}
+use Rattle.std.proofs.Common.{◌≡◌, ◌+◌, length, ◌∙◌, arith, length-set}
+use Rattle.tables.specs.Stores.{items}
 use Rattle.tables.proofs.Appending.{chained_pushed}
 use Rattle.tables.proofs.parts.store.Store.push.Goals as goal
 
@@ -8,4 +9,5 @@ invariant_of-self-clause-wide c = length-set c.args.self.now.heads c.hash-h.resu
 pub invariant_of-self-clause-chained : goal.invariant_of-self-clause-chained
 invariant_of-self-clause-chained c =
     let S = c.args.self.now in
-    chained_pushed S.chained S.wide c.args.key c.hash-h.ensures.value c.hash-h.ensures.bound (omega (arith, c.len.ensures, S.nodes.ok.0)) c.push_reserved.ensures.items
+    let last : c.new-link.result.to ≡ length (items S) + 1 = omega (arith, c.new-link.ensures, c.len.ensures, S.nodes.ok.0) in
+    chained_pushed S.chained S.wide c.args.key c.hash-h.ensures.value c.hash-h.ensures.bound last c.push_reserved.ensures.items
