@@ -1,5 +1,6 @@
 -- What a store with no record keeps. Assumes nothing.
-use Rattle.std.proofs.Common.{◌≡◌, ℕ, zero, suc, List, [], get_or, replicate, sym, refl, subst, arith}
+use Rattle.std.proofs.Common.{◌≡◌, List, [], replicate, sym, subst, arith}
+use Rattle.std.proofs.lemmas.List.{get_or-replicate}
 use Rattle.mvl.specs.Labels.{Meaning}
 use Rattle.diagrams.specs.Shape.{Shape, ShapeLaws}
 use Rattle.diagrams.proofs.Calls.Room.{empty_sound as table_sound}
@@ -8,15 +9,10 @@ use Rattle.tables.specs.Chains.{Chained}
 use Rattle.tables.specs.Sounds.{Sound}
 use Rattle.tables.specs.declared.parts.node.Node.{Node}
 
-same_replicate : (n h : ℕ) → get_or (replicate n none) h none ≡ none
-same_replicate zero h = refl
-same_replicate (suc n) zero = refl
-same_replicate (suc n) (suc h) = same_replicate n h
-
 none_chained : Chained [] (replicate 1024 none)
 none_chained = record {
   links = λ r h. absurd (omega arith);
-  heads = λ h b. rw (same_replicate 1024 h) (record { early = omega arith; latest = λ q l e. absurd (omega arith); alike = λ l. absurd (omega arith) });
+  heads = λ h b. rw (get_or-replicate 1024 h none none b) (record { early = omega arith; latest = λ q l e. absurd (omega arith); alike = λ l. absurd (omega arith) });
 }
 
 -- no record, and no chain

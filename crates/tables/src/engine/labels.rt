@@ -1,4 +1,6 @@
 //! The answers of a chart, read from its rows.
+//!
+//! Free functions: `Chart` is another crate's type, and has methods of these names that test what they are handed.
 
 ghost use Rattle.std.specs.Prelude.{◌≡◌, ◌<◌};
 ghost use Rattle.mvl.specs.Labels.{product as times, inverse as back, home as base, home_label as lifted};

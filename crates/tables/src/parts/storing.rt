@@ -69,6 +69,7 @@ impl Store {
         ensures limit { self.new.limit ≡ self.old.limit }
         ensures items { items self.new ≡ take len (items self.old) }
     {
+        // A range would count numbers that are not used.
         while self.len() > len {
             self.pop();
         }
