@@ -45,9 +45,8 @@ impl Store {
     {
         let h = key.hash();
         let next = self.heads[h];
-        let link = Link::new(self.nodes.len());
+        self.heads[h] = Link::new(self.nodes.len());
         self.nodes.push_reserved(Node { key, next });
-        self.heads[h] = link;
     }
 
     /// The last record, taken back.
