@@ -2,11 +2,8 @@
 use Rattle.std.proofs.Common.{◌≡◌, ℕ, ◌≤◌, Bool, true, false, ◌&&◌, T, eqb, ltb, List, get_or, Ok, Err, Result, sym, refl, ◌∙◌, subst, arith, le→leb, eqb→eq, leb→le}
 use Rattle.mvl.specs.declared.refusal.Refusal.{Refusal}
 use Rattle.mvl.specs.declared.refusal.Refusal.TheVariants.{NoEdge, NoVariable, NoValue, WrongRadix, NoRoom}
-use Rattle.mvl.specs.Numbers.{number}
-use Rattle.mvl.specs.Labels.{Meaning}
 use Rattle.mvl.specs.Operations.{Binary, Closed}
 use Rattle.mvl.specs.Tests.{passed, and_left, and_right, equal_passes}
-use Rattle.diagrams.specs.Shape.{Shape}
 use Rattle.diagrams.specs.Functions.{Agree}
 use Rattle.diagrams.specs.Diagram.{population}
 use Rattle.diagrams.specs.Calls.{Query, asks, asked, apply, restrict}
@@ -18,15 +15,11 @@ use Rattle.diagrams.proofs.Build.Count.{gains_count}
 use Rattle.diagrams.proofs.Calls.Granted.{edge_is}
 use Rattle.diagrams.proofs.Walk.Work.{start_ranged, start_depends}
 use Rattle.tables.specs.declared.parts.edge.Edge.{Edge}
-use Rattle.tables.specs.declared.parts.node.Link.{Link}
-use Rattle.tables.specs.declared.parts.node.Node.{Node}
 use Rattle.tables.specs.declared.parts.card.Card.{Card}
 use Rattle.tables.specs.declared.engine.task.Task.{Task}
 use Rattle.tables.specs.declared.parts.holding.Diagrams.{Diagrams}
 use Rattle.tables.specs.Edges.{arrow}
-use Rattle.tables.specs.Chains.{Chained}
 use Rattle.tables.specs.Cards.{shape_of}
-use Rattle.tables.specs.Sounds.{Sound}
 use Rattle.tables.specs.Did.{meaning_of, nodes_of, table_of, answer_of, Did}
 use Rattle.tables.specs.Walks.{told, Tabulates, task_of, walked, Walked}
 use Rattle.tables.specs.Tested.{no_value, unfit}
@@ -34,12 +27,6 @@ use Rattle.tables.proofs.Refused.{failed, unless_no, unless_yes, stops_at_two, p
 use Rattle.tables.proofs.Testing.{value_there, value_past}
 use Rattle.tables.proofs.Facts.{laws, shape_laws, reduced_of, held_few, did_refuse, did_restore, did_gain}
 use Rattle.tables.proofs.Looping.{start}
-
--- the records that there were, with chains of their own
-pub sound_back : {m : Meaning} {s : Shape} {xs : List Node} {tops : List Link} → Sound m s xs tops → {ys : List Node} {us : List Link} → ys ≡ xs → Chained ys us → Sound m s ys us
-sound_back {m} {s} {xs} sound {ys} {us} same chained =
-    subst (λ (zs : List Node). Chained zs us → Sound m s zs us) (sym same)
-    (λ linked. record { reduced = sound.reduced; fills = sound.fills; chained = linked }) chained
 
 -- a query that want of room alone can refuse
 module _ (D : Diagrams) (q : Query) (past : refusal (meaning_of D) (table_of D) (asks q) ≡ room_for (meaning_of D) (table_of D) (asks q)) where

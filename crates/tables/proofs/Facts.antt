@@ -17,7 +17,7 @@ use Rattle.tables.specs.declared.parts.card.Card.{Card}
 use Rattle.tables.specs.declared.parts.holding.Diagrams.{Diagrams}
 use Rattle.tables.specs.Records.{nodes_in}
 use Rattle.tables.specs.Cards.{shape_of, capacity_of}
-use Rattle.tables.specs.Stores.{items, heads}
+use Rattle.tables.specs.Stores.{items}
 use Rattle.tables.specs.Sounds.{Sound}
 use Rattle.tables.specs.Did.{meaning_of, nodes_of, table_of, answer_of, Did}
 use Rattle.tables.proofs.Refused.{number_some}
@@ -32,7 +32,7 @@ module _ (D : Diagrams) where
   pub shape_laws : ShapeLaws (shape_of D.card)
   shape_laws = shape_laws_of D.card
 
-  pub sound_of : Sound (meaning_of D) (shape_of D.card) (items D.store) (heads D.store)
+  pub sound_of : Sound (meaning_of D) (shape_of D.card) (items D.store)
   sound_of = sound_out D.sound
 
   pub reduced_of : Reduced (meaning_of D) (shape_of D.card) (nodes_of D)

@@ -19,5 +19,4 @@ pub mod Unreadable
 pub mod Walking
 pub mod Growing
 pub mod Looping
-pub mod Tabling
 pub mod Applying

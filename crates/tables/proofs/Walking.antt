@@ -19,13 +19,13 @@ use Rattle.tables.proofs.Appending.{has_record}
 use Rattle.tables.proofs.Facts.{laws, shape_laws, reduced_of}
 
 module _ (D : Diagrams) where
-  pub variables_within : (r : ℕ) → r < length (items D.store) → (at (items D.store) r).variable < D.card.n
+  pub variables_within : (r : ℕ) → r < length (items D.store) → (at (items D.store) r).key.variable < D.card.n
   variables_within r h = (reduced_of D).ordered.variable_within r (has_record (items D.store) r h)
 
   -- an edge of the table can be followed
   pub leads : (x i : ℕ) (e : Edge) → i < get_or D.card.sizes x 0 → Of (meaning_of D) (nodes_of D) (arrow e) → Leads D.chart (items D.store) x i e
   leads x i e hi of = record {
-    within = λ h. (subst (Stands (meaning_of D) (nodes_of D)) (goal_node (e.word % 16384) h) of.over.stands).0;
+    within = λ r is. (subst (Stands (meaning_of D) (nodes_of D)) is of.over.stands).0;
     label = of.over.label_within;
     labels = λ r h is.
         ((reduced_of D).ordered.over r i (has_record (items D.store) r h) (subst (λ y. i < get_or D.card.sizes y 0) (sym is) hi)).label_within;

@@ -1,6 +1,7 @@
 pub mod Edges
 pub mod Records
 pub mod Chains
+pub mod Unique
 pub mod Orders
 pub mod Cards
 pub mod Stores

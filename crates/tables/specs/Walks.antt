@@ -1,11 +1,11 @@
 -- The tasks and frames of the engine as the theory's, and what a walk gives. Assumes nothing.
-use Rattle.std.specs.Prelude.{◌≡◌, ℕ, ◌+◌, ◌-◌, ◌*◌, ◌/◌, ◌%◌, ◌<◌, ◌≤◌, List, length, Ok, Err, Result, slice_index, slice_set}
+use Rattle.std.specs.Prelude.{◌≡◌, ℕ, ◌+◌, ◌*◌, ◌/◌, ◌<◌, ◌≤◌, List, length, Ok, Err, Result, slice_index, slice_set}
 use Rattle.mvl.specs.Operations.{Binary}
 use Rattle.mvl.specs.declared.chart.Chart.{Chart}
 use Rattle.mvl.specs.declared.refusal.Refusal.{Refusal}
 use Rattle.mvl.specs.declared.refusal.Refusal.TheVariants.{NoRoom}
 use Rattle.diagrams.specs.Functions.{Function}
-use Rattle.diagrams.specs.Diagram.{population}
+use Rattle.diagrams.specs.Diagram.{node, population}
 use Rattle.diagrams.specs.Build.{Gains, lacking}
 use Rattle.diagrams.specs.Walk.{Fair, TaskOf, meant, Settles, Needs, Walk as Way, Task as Pair}
 use Rattle.tables.specs.declared.parts.edge.Edge.{Edge}
@@ -49,9 +49,9 @@ pub record Extended (f : Frame) (r : Edge) (g : Frame) : Type 0 where
 
 -- an edge can be followed where x has value i: its target is in the store, and the labels are labels
 pub record Leads (chart : Chart) (xs : List Node) (x i : ℕ) (e : Edge) : Type 0 where
-  pub within : 4 ≤ e.word % 16384 → e.word % 16384 - 4 < length xs
+  pub within : (r : ℕ) → (arrow e).target ≡ node r → r < length xs
   pub label : e.word / 16384 < chart.labels
-  pub labels : (r : ℕ) → r < length xs → (at xs r).variable ≡ x → (arrows (at xs r).edges i).label < chart.labels
+  pub labels : (r : ℕ) → r < length xs → (at xs r).key.variable ≡ x → (arrows (at xs r).key.edges i).label < chart.labels
 
 -- a walk in a table, and a task of its edges
 abbrev pub WalkIn : Diagrams → Way → Type 0

@@ -1,8 +1,8 @@
 //! Edges of a store are followed.
 
-ghost use Rattle.std.specs.Prelude.{◌≡◌, ℕ, ◌-◌, ◌/◌, ◌%◌, ◌<◌, ◌≤◌, length};
+ghost use Rattle.std.specs.Prelude.{◌≡◌, ℕ, ◌/◌, ◌%◌, ◌<◌, length};
 ghost use Rattle.mvl.specs.Charts.{chart_meaning};
-ghost use Rattle.diagrams.specs.Diagram.{level as level_of};
+ghost use Rattle.diagrams.specs.Diagram.{node, level as level_of};
 ghost use Rattle.diagrams.specs.Walk.{follow as follows, child as child_of};
 ghost use Rattle.tables.specs.Cards.{shape_of};
 ghost use Rattle.tables.specs.Edges.{arrow};
@@ -15,20 +15,19 @@ use crate::engine::task::Task;
 use crate::parts::card::Card;
 use crate::parts::edge::Edge;
 use crate::parts::store::Store;
+use crate::parts::target::Target;
 use mvl::chart::Chart;
 
 /// The place of an edge's target: a terminal stands below every variable.
 pub(crate) fn level(store: &Store, card: &Card, e: Edge) -> usize
-    requires within { 4 ≤ e.word % 16384 → e.word % 16384 - 4 < length (items store.now) }
-    requires variables { (r : ℕ) → r < length (items store.now) → (at (items store.now) r).variable < card.now.n }
+    requires within { (r : ℕ) → (arrow e).target ≡ node r → r < length (items store.now) }
+    requires variables { (r : ℕ) → r < length (items store.now) → (at (items store.now) r).key.variable < card.now.n }
     ensures { result ≡ level_of (shape_of card.now) (nodes_in (items store.now)) (arrow e).target }
 {
-    let t = e.target();
-    if t < 4 {
-        return card.n;
+    match e.target() {
+        Target::Terminal(_) => card.n,
+        Target::Node(r) => card.place[store.read(r).key.variable as usize] as usize,
     }
-    let node = store.read((t - 4) as usize);
-    card.place[node.variable as usize] as usize
 }
 
 /// The edge where variable `x` has value `i`: a node of `x` is gone through, any other target stays.
@@ -37,15 +36,14 @@ pub(crate) fn follow(store: &Store, chart: &Chart, x: u8, i: u8, e: Edge) -> Edg
     requires leads { Leads chart.now (items store.now) x i e }
     ensures { arrow result ≡ follows (chart_meaning chart.now) (nodes_in (items store.now)) x i (arrow e) }
 {
-    let t = e.target();
-    if t < 4 {
+    let Target::Node(r) = e.target() else {
+        return e;
+    };
+    let key = store.read(r).key;
+    if key.variable != x {
         return e;
     }
-    let node = store.read((t - 4) as usize);
-    if node.variable != x {
-        return e;
-    }
-    let f = node.edges[i as usize];
+    let f = key.edges[i as usize];
     Edge::to(product(chart, e.label(), f.label()), f.target())
 }
 
@@ -69,5 +67,8 @@ pub(crate) fn worth(chart: &Chart, e: Edge) -> u8
     ensures value { result ≡ (chart_meaning chart.now).carry (e.word / 16384) (e.word % 16384) }
     ensures bound { result < chart.now.radix }
 {
-    carry(chart, e.label(), e.target() as u8)
+    match e.target() {
+        Target::Terminal(v) => carry(chart, e.label(), v),
+        Target::Node(_) => unreachable!(),
+    }
 }

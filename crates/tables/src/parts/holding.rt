@@ -3,7 +3,7 @@
 ghost use Rattle.std.specs.Prelude.{◌≡◌};
 ghost use Rattle.mvl.specs.Charts.{chart_meaning};
 ghost use Rattle.tables.specs.Cards.{shape_of, capacity_of};
-ghost use Rattle.tables.specs.Stores.{items, heads, limit_of};
+ghost use Rattle.tables.specs.Stores.{items, limit_of};
 ghost use Rattle.tables.specs.Sounds.{Sound};
 
 use crate::parts::card::Card;
@@ -17,5 +17,5 @@ pub(crate) struct Diagrams {
     pub(crate) card: Card,
     pub(crate) store: Store,
     ghost room: { limit_of store ≡ capacity_of card },
-    ghost sound: { ∥ Sound (chart_meaning chart) (shape_of card) (items store) (heads store) ∥₁ },
+    ghost sound: { ∥ Sound (chart_meaning chart) (shape_of card) (items store) ∥₁ },
 }

@@ -17,16 +17,17 @@ returns-then-assignment-self c =
     let D = c.args.self.now in
     wrong_length (meaning_of D) (table_of D) (arrow c.args.e) c.args.assignment.now c.if-not-has.ensures (λ e. omega arith)
 
-pub returns-then-assignment-x : goal.returns-then-assignment-x
-returns-then-assignment-x c =
+pub returns-then-not-allows : goal.returns-then-not-allows
+returns-then-not-allows c =
     let D = c.args.self.now in
-    too_large (meaning_of D) (table_of D) (arrow c.args.e) c.args.assignment.now c.if-not-has.ensures (omega arith) c.loop-x.x (omega arith) (omega arith)
+    let large = c.if-not-allows.ensures in
+    too_large (meaning_of D) (table_of D) (arrow c.args.e) c.args.assignment.now c.if-not-has.ensures (omega arith) large.0 (omega arith) large.2
 
 pub returns : goal.returns
 returns c =
     let D = c.args.self.now in
     let long : length c.args.assignment.now ≡ D.card.n = omega arith in
-    let all : Assignment (shape_of D.card) (assigned c.args.assignment.now) = λ k h. c.loop-x.invariant k (omega arith) in
+    let all : Assignment (shape_of D.card) (assigned c.args.assignment.now) = λ x h. c.if-not-allows.ensures x (omega arith) in
     record {
       granted = readable (meaning_of D) (table_of D) (arrow c.args.e) c.args.assignment.now c.if-not-has.ensures long all;
       value_is = c.follow.ensures.value;

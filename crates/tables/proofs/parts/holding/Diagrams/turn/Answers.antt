@@ -1,7 +1,7 @@
 use Rattle.std.proofs.Common.{ap, ◌∙◌, arith}
 use Rattle.mvl.specs.Labels.{product}
 use Rattle.diagrams.proofs.Reading.Edges.{edge_same}
-use Rattle.tables.specs.Edges.{arrow, goal as goal'}
+use Rattle.tables.specs.Edges.{arrow}
 use Rattle.tables.specs.Did.{meaning_of}
 use Rattle.tables.proofs.Answering.{turn_strange, turn_unlabelled, turn_known}
 use Rattle.tables.proofs.parts.holding.Diagrams.turn.Goals as goal
@@ -16,4 +16,4 @@ pub returns : goal.returns
 returns c =
     let D = c.args.self.now in
     let label = c.product-turned.ensures.value ∙ ap (product (meaning_of D) c.args.k) c.label-label.ensures.value in
-    turn_known D (arrow c.args.e) c.args.k c.if-not-has.ensures (omega arith) (c.to.ensures ∙ edge_same label (ap goal' c.target.ensures.value))
+    turn_known D (arrow c.args.e) c.args.k c.if-not-has.ensures (omega arith) (c.to.ensures ∙ edge_same label c.target.ensures.value)
