@@ -2,6 +2,7 @@
 use Rattle.std.proofs.Common.{◌≡◌, ℕ, ◌≤◌, Bool, true, false, ◌&&◌, T, eqb, ltb, List, get_or, Ok, Err, Result, sym, refl, ◌∙◌, subst, arith, le→leb, eqb→eq, leb→le}
 use Rattle.mvl.specs.declared.refusal.Refusal.{Refusal}
 use Rattle.mvl.specs.declared.refusal.Refusal.TheVariants.{NoEdge, NoVariable, NoValue, WrongRadix, NoRoom}
+use Rattle.mvl.specs.Numbers.{number}
 use Rattle.mvl.specs.Operations.{Binary, Closed}
 use Rattle.mvl.specs.Tests.{passed, and_left, and_right, equal_passes}
 use Rattle.diagrams.specs.Functions.{Agree}

@@ -3,8 +3,8 @@
 pub mod card;
 pub(crate) mod cards;
 pub mod edge;
-pub(crate) mod holding;
 pub(crate) mod finding;
+pub(crate) mod holding;
 pub(crate) mod key;
 pub(crate) mod link;
 pub(crate) mod node;
