@@ -26,10 +26,9 @@ use Rattle.tables.specs.Stores.{items}
 use Rattle.tables.specs.Sounds.{Grows}
 use Rattle.tables.specs.Did.{meaning_of, nodes_of}
 use Rattle.tables.specs.Makes.{Grown, HasMade, LacksRoom}
-use Rattle.tables.specs.Walks.{task_of, Begins, Extended, Leads, Gained, Short, Walks}
+use Rattle.tables.specs.Walks.{task_of, Begins, Extended, Gained, Short, Walks}
 use Rattle.tables.proofs.Facts.{laws, shape_laws, reduced_of}
 use Rattle.tables.proofs.Growing.{grown_same, grown_back, grown_refl, grown_trans}
-use Rattle.tables.proofs.Walking.{leads}
 use Rattle.tables.proofs.Appending.{population_is}
 
 -- what a frame stands for
@@ -107,16 +106,13 @@ module _ {D₀ : Diagrams} {w : Way} {t₀ : Task} (D : Diagrams) {fs : List Fra
   pub top_within : (frame_at fs k).variable < D.card.n
   top_within = (top_needs inv.start inv.working).within
 
+  pub top_task : TaskOf (meaning_of D) (nodes_of D) (task_of (frame_at fs k).task)
+  top_task = (top_needs inv.start inv.working).task_of
+
   -- the frame at the top lacks an edge
   module _ (less : (frame_at fs k).done < get_or D.card.sizes (frame_at fs k).variable 0) where
     pub top_few : (frame_at fs k).done < 4
     top_few = done_few inv.start inv.working less
-
-    pub left_leads : Leads D.chart (items D.store) (frame_at fs k).variable (frame_at fs k).done (frame_at fs k).task.left
-    left_leads = leads D _ _ (frame_at fs k).task.left less (top_needs inv.start inv.working).task_of.left
-
-    pub right_leads : Leads D.chart (items D.store) (frame_at fs k).variable (frame_at fs k).done (frame_at fs k).task.right
-    right_leads = leads D _ _ (frame_at fs k).task.right less (top_needs inv.start inv.working).task_of.right
 
     module _ (t : Task) (is : task_of t ≡ child (meaning_of D) (nodes_of D) (frame_at fs k).variable (frame_at fs k).done (task_of (frame_at fs k).task)) where
       pub next_task : TaskOf (meaning_of D) (nodes_of D) (task_of t)

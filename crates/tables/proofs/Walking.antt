@@ -1,35 +1,40 @@
--- Tasks that are settled. Assumes nothing.
-use Rattle.std.proofs.Common.{◌≡◌, ℕ, ◌+◌, ◌-◌, ◌*◌, ◌/◌, ◌%◌, ◌<◌, ◌≤◌, List, length, get_or, sym, ◌∙◌, subst, ap₂, ⊎_elim, arith}
+-- Edges that walks follow, and tasks that are settled. Assumes nothing.
+use Rattle.std.proofs.Common.{◌≡◌, ℕ, ◌+◌, ◌-◌, ◌*◌, ◌/◌, ◌%◌, ◌<◌, ◌≤◌, List, get_or, sym, ap, ◌∙◌, subst, ap₂, ⊎_elim, arith}
 use Rattle.std.proofs.lemmas.Bool.{cases_lt}
-use Rattle.diagrams.specs.Diagram.{Target, level, Of, Stands}
+use Rattle.diagrams.specs.Diagram.{Target, node, level, Has, Of, Stands}
 use Rattle.diagrams.specs.Build.{constant_edge}
 use Rattle.diagrams.specs.Walk.{applies, restricts, Fair, TaskOf, follow, Settles}
 use Rattle.diagrams.proofs.Walk.Task.{settles_constant, settles_restricted}
 use Rattle.tables.specs.declared.parts.edge.Edge.{Edge}
+use Rattle.tables.specs.declared.parts.node.Node.{Node}
 use Rattle.tables.specs.declared.engine.task.Task.{Task}
 use Rattle.tables.specs.declared.parts.holding.Diagrams.{Diagrams}
-use Rattle.tables.specs.Edges.{arrow}
+use Rattle.tables.specs.Edges.{arrow, word_at}
 use Rattle.tables.specs.Records.{at}
 use Rattle.tables.specs.Cards.{shape_of}
 use Rattle.tables.specs.Stores.{items}
 use Rattle.tables.specs.Did.{meaning_of, nodes_of}
-use Rattle.tables.specs.Walks.{told, task_of, Leads}
+use Rattle.tables.specs.Walks.{told, task_of}
 use Rattle.tables.proofs.Goals.{goal_terminal, goal_node}
-use Rattle.tables.proofs.Appending.{has_record}
 use Rattle.tables.proofs.Facts.{laws, shape_laws, reduced_of}
 
 module _ (D : Diagrams) where
-  pub variables_within : (r : ℕ) → r < length (items D.store) → (at (items D.store) r).key.variable < D.card.n
-  variables_within r h = (reduced_of D).ordered.variable_within r (has_record (items D.store) r h)
+  -- the node that an edge of the table leads to, as it was read, at a value of its variable
+  module _ (e : Edge) (of : Of (meaning_of D) (nodes_of D) (arrow e)) {r : ℕ} (leads : node r ≡ (arrow e).target) {n : Node} (is : n ≡ at (items D.store) r)
+      {x i : ℕ} (hi : i < get_or D.card.sizes x 0) (own : n.key.variable ≡ x) where
+    there : Has (nodes_of D) r
+    there = subst (Stands (meaning_of D) (nodes_of D)) (sym leads) of.over.stands
 
-  -- an edge of the table can be followed
-  pub leads : (x i : ℕ) (e : Edge) → i < get_or D.card.sizes x 0 → Of (meaning_of D) (nodes_of D) (arrow e) → Leads D.chart (items D.store) x i e
-  leads x i e hi of = record {
-    within = λ r is. (subst (Stands (meaning_of D) (nodes_of D)) is of.over.stands).0;
-    label = of.over.label_within;
-    labels = λ r h is.
-        ((reduced_of D).ordered.over r i (has_record (items D.store) r h) (subst (λ y. i < get_or D.card.sizes y 0) (sym is) hi)).label_within;
-  }
+    own_there : (nodes_of D).variable r ≡ x
+    own_there = ap (λ (n : Node). n.key.variable) (sym is) ∙ own
+
+    pub value_few : i < 4
+    value_few = omega (arith, (shape_laws D).size_high x (subst (λ y. y < D.card.n) own_there ((reduced_of D).ordered.variable_within r there)))
+
+    pub label_there : word_at n.key.edges i / 16384 < D.chart.labels
+    label_there =
+        subst (λ (n : Node). word_at n.key.edges i / 16384 < D.chart.labels) (sym is)
+        ((reduced_of D).ordered.over r i there (subst (λ y. i < get_or D.card.sizes y 0) (sym own_there) hi)).label_within
 
   -- what stands below every variable is a terminal
   low_target : (e : Edge) → Of (meaning_of D) (nodes_of D) (arrow e)

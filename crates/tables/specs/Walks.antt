@@ -1,22 +1,19 @@
 -- The tasks and frames of the engine as the theory's, and what a walk gives. Assumes nothing.
-use Rattle.std.specs.Prelude.{◌≡◌, ℕ, ◌+◌, ◌*◌, ◌/◌, ◌<◌, ◌≤◌, List, length, Ok, Err, Result, slice_index, slice_set}
+use Rattle.std.specs.Prelude.{◌≡◌, ℕ, ◌+◌, ◌*◌, ◌<◌, ◌≤◌, List, length, Ok, Err, Result, slice_index, slice_set}
 use Rattle.mvl.specs.Operations.{Binary}
-use Rattle.mvl.specs.declared.chart.Chart.{Chart}
 use Rattle.mvl.specs.declared.refusal.Refusal.{Refusal}
 use Rattle.mvl.specs.declared.refusal.Refusal.TheVariants.{NoRoom}
 use Rattle.diagrams.specs.Functions.{Function}
-use Rattle.diagrams.specs.Diagram.{node, population}
+use Rattle.diagrams.specs.Diagram.{population}
 use Rattle.diagrams.specs.Build.{Gains, lacking}
 use Rattle.diagrams.specs.Walk.{Fair, TaskOf, meant, Settles, Needs, Walk as Way, Task as Pair}
 use Rattle.tables.specs.declared.parts.edge.Edge.{Edge}
-use Rattle.tables.specs.declared.parts.node.Node.{Node}
 use Rattle.tables.specs.declared.engine.task.Task.{Task}
 use Rattle.tables.specs.declared.engine.frame.Frame.{Frame}
 use Rattle.tables.specs.declared.engine.task.Next.{Next}
 use Rattle.tables.specs.declared.engine.task.Next.TheVariants.{Settled, Split}
 use Rattle.tables.specs.declared.parts.holding.Diagrams.{Diagrams}
-use Rattle.tables.specs.Edges.{arrow, arrows}
-use Rattle.tables.specs.Records.{at}
+use Rattle.tables.specs.Edges.{arrow}
 use Rattle.tables.specs.Cards.{shape_of, capacity_of}
 use Rattle.tables.specs.Stores.{items}
 use Rattle.tables.specs.Did.{meaning_of, nodes_of}
@@ -46,12 +43,6 @@ pub record Extended (f : Frame) (r : Edge) (g : Frame) : Type 0 where
   pub done : g.done ≡ f.done + 1
   pub edges : g.edges ≡ slice_set f.edges f.done r
   pub four : length f.edges ≡ 4
-
--- an edge can be followed where x has value i: its target is in the store, and the labels are labels
-pub record Leads (chart : Chart) (xs : List Node) (x i : ℕ) (e : Edge) : Type 0 where
-  pub within : (r : ℕ) → (arrow e).target ≡ node r → r < length xs
-  pub label : e.word / 16384 < chart.labels
-  pub labels : (r : ℕ) → r < length xs → (at xs r).key.variable ≡ x → (arrows (at xs r).key.edges i).label < chart.labels
 
 -- a walk in a table, and a task of its edges
 abbrev pub WalkIn : Diagrams → Way → Type 0

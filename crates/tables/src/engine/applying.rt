@@ -3,7 +3,6 @@
 ghost use Rattle.diagrams.specs.Walk.{applies};
 ghost use Rattle.tables.specs.Walks.{told};
 
-use crate::engine::following::{level, worth};
 use crate::engine::rows::constant_edge;
 use crate::engine::settling::Walk;
 use crate::engine::task::{Next, Task};
@@ -20,14 +19,14 @@ impl Walk for Applying {
 
     // Two terminals give a constant, and else the topmost target's variable is next.
     fn settle(&self, diagrams: &Diagrams, task: Task) -> Next {
-        let left = level(&diagrams.store, &diagrams.card, task.left);
-        let right = level(&diagrams.store, &diagrams.card, task.right);
+        let left = diagrams.level(task.left);
+        let right = diagrams.level(task.right);
         let top = left.min(right);
         if top < diagrams.card.n {
             return Next::Split(diagrams.card.order[top]);
         }
-        let a = worth(&diagrams.chart, task.left);
-        let b = worth(&diagrams.chart, task.right);
+        let a = diagrams.worth(task.left);
+        let b = diagrams.worth(task.right);
         Next::Settled(constant_edge(&diagrams.chart, self.answers[(4 * a + b) as usize]))
     }
 }

@@ -2,7 +2,6 @@
 
 ghost use Rattle.diagrams.specs.Walk.{restricts};
 
-use crate::engine::following::{follow, level};
 use crate::engine::settling::Walk;
 use crate::engine::task::{Next, Task};
 use crate::parts::holding::Diagrams;
@@ -19,16 +18,10 @@ impl Walk for Restricting {
 
     // An edge that leads to a node of the variable or below it is followed, and else its target's variable is next.
     fn settle(&self, diagrams: &Diagrams, task: Task) -> Next {
-        let top = level(&diagrams.store, &diagrams.card, task.left);
+        let top = diagrams.level(task.left);
         if top < diagrams.card.place[self.variable as usize] as usize {
             return Next::Split(diagrams.card.order[top]);
         }
-        Next::Settled(follow(
-            &diagrams.store,
-            &diagrams.chart,
-            self.variable,
-            self.value,
-            task.left,
-        ))
+        Next::Settled(diagrams.branch(self.variable, self.value, task.left))
     }
 }

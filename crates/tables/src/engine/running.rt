@@ -2,7 +2,6 @@
 
 ghost use Rattle.tables.specs.Walks.{WalkIn, TaskIn, SplitsAt, Walks};
 
-use crate::engine::following::child;
 use crate::engine::frame::Frame;
 use crate::engine::settling::Walk;
 use crate::engine::task::{Next, Task};
@@ -24,7 +23,7 @@ impl Diagrams {
         loop {
             let top = frames[k];
             if top.done < self.card.sizes[top.variable as usize] {
-                let next = child(&self.store, &self.chart, top.task, top.variable, top.done);
+                let next = self.child(top.task, top.variable, top.done);
                 match walk.settle(self, next) {
                     Next::Settled(r) => frames[k] = top.with(r),
                     Next::Split(y) => {

@@ -1,12 +1,6 @@
 use Rattle.std.proofs.Common.{arith}
-use Rattle.tables.proofs.Walking.{variables_within, low_value, settled_pair}
+use Rattle.tables.proofs.Walking.{low_value, settled_pair}
 use Rattle.tables.proofs.engine.applying.ApplyingWalk.settle.Goals as goal
-
-pub level-left-requires-clause-variables : goal.level-left-requires-clause-variables
-level-left-requires-clause-variables c = variables_within c.args.diagrams.now
-
-pub level-right-requires-clause-variables : goal.level-right-requires-clause-variables
-level-right-requires-clause-variables c = variables_within c.args.diagrams.now
 
 pub worth-a-requires-clause-value : goal.worth-a-requires-clause-value
 worth-a-requires-clause-value c = low_value c.args.diagrams.now c.args.task.left c.requires.of.left (omega arith)

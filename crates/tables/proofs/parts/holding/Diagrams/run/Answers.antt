@@ -1,15 +1,12 @@
 use Rattle.std.proofs.Common.{refl, rules, arith}
-use Rattle.tables.proofs.Looping.{begins, left_leads, right_leads, next_task, fill_again, fill_less, push_room, push_again, push_less, full_asks, full_short, full_gained, below_few, pop_again, pop_less}
+use Rattle.tables.proofs.Looping.{begins, top_task, next_task, fill_again, fill_less, push_room, push_again, push_less, full_asks, full_short, full_gained, below_few, pop_again, pop_less}
 use Rattle.tables.proofs.parts.holding.Diagrams.run.Goals as goal
 
 pub loop-self-init : goal.loop-self-init
 loop-self-init g c = begins c.args.self.now c.requires.fair _ c.requires.splits c.of-frames.ensures refl
 
-pub child-next-requires-clause-left : goal.child-next-requires-clause-left
-child-next-requires-clause-left g c = left_leads c.loop-self.self c.loop-self.invariant c.if-top-self.true
-
-pub child-next-requires-clause-right : goal.child-next-requires-clause-right
-child-next-requires-clause-right g c = right_leads c.loop-self.self c.loop-self.invariant c.if-top-self.true
+pub child-next-requires-clause-of : goal.child-next-requires-clause-of
+child-next-requires-clause-of g c = top_task c.loop-self.self c.loop-self.invariant
 
 pub settle-requires-clause-of : goal.settle-requires-clause-of
 settle-requires-clause-of g c = next_task c.loop-self.self c.loop-self.invariant c.if-top-self.true c.child-next.result c.child-next.ensures
