@@ -11,7 +11,7 @@ use Rattle.diagrams.proofs.Reading.Edges.{turned_of}
 use Rattle.diagrams.proofs.Reading.Values.{value_turned}
 use Rattle.diagrams.proofs.Build.Gain.{constant_of, constant_value}
 use Rattle.diagrams.proofs.Calls.Granted.{edge_is, granted_from}
-use Rattle.tables.specs.declared.calls.holding.Diagrams.{Diagrams}
+use Rattle.tables.specs.declared.parts.holding.Diagrams.{Diagrams}
 use Rattle.tables.specs.Cards.{shape_of}
 use Rattle.tables.specs.Did.{meaning_of, nodes_of, table_of, Did}
 use Rattle.tables.proofs.Refused.{failed, unless_no, unless_yes}
@@ -19,7 +19,7 @@ use Rattle.tables.proofs.Facts.{reduced_of, laws, shape_laws, did_refuse, did_kn
 
 module _ (D : Diagrams) where
   pub constant_large : (v : ℕ) → D.chart.radix ≤ v → Did D (asks (constant v)) (refused 5) D
-  constant_large v h = did_refuse D (asks (constant v)) 4 (unless_no (ltb v D.chart.radix) NoValue 0 (λ t. let l = ltb→lt v D.chart.radix t in omega arith))
+  constant_large v h = did_refuse D (asks (constant v)) NoValue (unless_no (ltb v D.chart.radix) NoValue 0 (λ t. let l = ltb→lt v D.chart.radix t in omega arith))
 
   pub constant_known : (v : ℕ) → v < D.chart.radix → {e : Arrow} → e ≡ constant_edge (meaning_of D) v → Did D (asks (constant v)) (edge e) D
   constant_known v h is =
@@ -29,11 +29,11 @@ module _ (D : Diagrams) where
 
   module _ (e : Arrow) (k : ℕ) where
     pub turn_strange : false ≡ is_edge (meaning_of D) (nodes_of D) e → Did D (asks (turn e k)) (refused 3) D
-    turn_strange f = did_refuse D (asks (turn e k)) 2 (unless_no (is_edge (meaning_of D) (nodes_of D) e) NoEdge (unless (ltb k D.chart.labels) NoLabel 0) (failed f))
+    turn_strange f = did_refuse D (asks (turn e k)) NoEdge (unless_no (is_edge (meaning_of D) (nodes_of D) e) NoEdge (unless (ltb k D.chart.labels) NoLabel 0) (failed f))
 
     pub turn_unlabelled : true ≡ is_edge (meaning_of D) (nodes_of D) e → D.chart.labels ≤ k → Did D (asks (turn e k)) (refused 6) D
     turn_unlabelled t h =
-        did_refuse D (asks (turn e k)) 5
+        did_refuse D (asks (turn e k)) NoLabel
         (unless_yes (is_edge (meaning_of D) (nodes_of D) e) NoEdge (unless (ltb k D.chart.labels) NoLabel 0) (passed (sym t))
         ∙ unless_no (ltb k D.chart.labels) NoLabel 0 (λ t. let l = ltb→lt k D.chart.labels t in omega arith))
 

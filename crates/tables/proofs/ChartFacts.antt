@@ -2,9 +2,12 @@
 use Rattle.std.proofs.Common.{ℕ, ◌+◌, ◌*◌, ◌<◌, get_or, sym, subst}
 use Rattle.mvl.specs.declared.chart.Chart.{Chart}
 use Rattle.mvl.specs.Home.{home_within, home_label_within}
-use Rattle.mvl.specs.Charted.{chart_laws, product_at, inverse_at, home_at, home_label_at}
+use Rattle.mvl.specs.Charted.{chart_laws, carry_at, product_at, inverse_at, home_at, home_label_at}
 
 module _ (c : Chart) where
+  pub carry_low : (k v : ℕ) → k < c.labels → v < c.radix → get_or c.carries (4 * k + v) 0 < c.radix
+  carry_low k v hk hv = subst (λ x. x < c.radix) (sym (carry_at c k v hk hv)) ((chart_laws c).within k v hk hv)
+
   pub product_low : (a b : ℕ) → a < c.labels → b < c.labels → get_or c.products (4 * a + b) 0 < c.labels
   product_low a b ha hb = subst (λ x. x < c.labels) (sym (product_at c a b ha hb)) ((chart_laws c).product_within a b ha hb)
 

@@ -1,7 +1,7 @@
 -- One record less. Assumes nothing.
 use Rattle.std.proofs.Common.{◌≡◌, ℕ, ◌+◌, ◌-◌, ◌<◌, ◌≤◌, ◌≢◌, List, length, get_or, take, set, sym, ap, ◌∙◌, subst, ⊎_elim, arith, length-take-le, get_or-set_other, get_or-take, get_or-set_same}
 use Rattle.std.proofs.lemmas.Bool.{cases_eq}
-use Rattle.tables.specs.declared.parts.node.Link.{Link}
+use Rattle.tables.specs.declared.parts.link.Link.{Link}
 use Rattle.tables.specs.declared.parts.node.Node.{Node}
 use Rattle.tables.specs.Records.{at, blank, none, hash_of}
 use Rattle.tables.specs.Chains.{hash_at, Latest, Chained}
@@ -11,7 +11,7 @@ module _ (xs : List Node) (r : ℕ) (h : r ≤ length xs) where
   less_at q b = get_or-take r xs q blank b
 
   less_hash : (q : ℕ) → q < r → hash_at (take r xs) q ≡ hash_at xs q
-  less_hash q b = ap (λ (y : Node). hash_of y.variable y.edges) (less_at q b)
+  less_hash q b = ap (λ (y : Node). hash_of y.key) (less_at q b)
 
   latest_less : (k n l : ℕ) → k ≤ r → Latest xs k n l → Latest (take r xs) k n l
   latest_less k n l b t = record {
@@ -42,7 +42,7 @@ module _ (xs : List Node) (tops : List Link) (wide : length tops ≡ 1024) (r : 
   chained_less = record {
     links = λ q b.
         let c : q < r = omega (arith, len) in
-        subst (λ (y : Node). Latest (take r xs) q (hash_of y.variable y.edges) y.next.to) (sym (less_at xs r within q c)) (latest_less xs r within q _ _ (omega arith) (chained.links q (omega arith)));
+        subst (λ (y : Node). Latest (take r xs) q (hash_of y.key) y.next.to) (sym (less_at xs r within q c)) (latest_less xs r within q _ _ (omega arith) (chained.links q (omega arith)));
     heads = λ n b.
         subst (λ k. Latest (take r xs) k n (get_or (set tops (hash_at xs r) (at xs r).next) n none).to) (sym len)
         (⊎_elim
@@ -57,8 +57,8 @@ module _ (xs : List Node) (tops : List Link) (wide : length tops ≡ 1024) (r : 
 
 -- the same of a record that was read, at its hash
 pub chained_popped : {xs : List Node} {tops : List Link} → Chained xs tops → length tops ≡ 1024 → (r : ℕ) → length xs ≡ r + 1 → {n : Node} → n ≡ at xs r
-    → {h : ℕ} → h ≡ hash_of n.variable n.edges → h < 1024 → {ys : List Node} → ys ≡ take r xs → Chained ys (set tops h n.next)
+    → {h : ℕ} → h ≡ hash_of n.key → h < 1024 → {ys : List Node} → ys ≡ take r xs → Chained ys (set tops h n.next)
 chained_popped {xs} {tops} chained wide r last {n} is {h} hash small cut =
     subst (λ (ys : List Node). Chained ys (set tops h n.next)) (sym cut)
-    (subst (λ (y : Node). (h : ℕ) → h ≡ hash_of y.variable y.edges → h < 1024 → Chained (take r xs) (set tops h y.next)) (sym is)
+    (subst (λ (y : Node). (h : ℕ) → h ≡ hash_of y.key → h < 1024 → Chained (take r xs) (set tops h y.next)) (sym is)
     (λ h hash small. subst (λ (k : ℕ). Chained (take r xs) (set tops k (at xs r).next)) (sym hash) (chained_less xs tops wide r last chained (omega arith))) h hash small)

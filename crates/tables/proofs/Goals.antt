@@ -1,5 +1,5 @@
 -- Targets by their numbers, and words as edges. Assumes nothing.
-use Rattle.std.proofs.Common.{◌≡◌, ℕ, ◌+◌, ◌-◌, ◌<◌, ◌≤◌, ltb, ap, ◌∙◌, arith, ltb→lt, lt→ltb}
+use Rattle.std.proofs.Common.{◌≡◌, ℕ, ◌-◌, ◌<◌, ◌≤◌, ltb, arith, ltb→lt, lt→ltb}
 use Rattle.diagrams.specs.Diagram.{terminal, node}
 use Rattle.mvl.specs.Tests.{cond_yes, cond_no}
 use Rattle.tables.specs.Edges.{goal}
@@ -9,6 +9,3 @@ goal_terminal t h = cond_yes (ltb t 4) (terminal t) (node (t - 4)) (lt→ltb t 4
 
 pub goal_node : (t : ℕ) → 4 ≤ t → goal t ≡ node (t - 4)
 goal_node t h = cond_no (ltb t 4) (terminal t) (node (t - 4)) (λ l. let b = ltb→lt t 4 l in omega arith)
-
-pub goal_of : (r : ℕ) → goal (r + 4) ≡ node r
-goal_of r = goal_node (r + 4) (omega arith) ∙ ap node (omega arith)

@@ -1,4 +1,5 @@
 pub mod Refused
+pub mod Testing
 pub mod ChartFacts
 pub mod Goals
 pub mod Same
@@ -16,6 +17,6 @@ pub mod Varying
 pub mod Following
 pub mod Unreadable
 pub mod Walking
+pub mod Growing
 pub mod Looping
-pub mod Tabling
 pub mod Applying

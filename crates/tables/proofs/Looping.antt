@@ -1,40 +1,35 @@
--- A walk in a loop, turn by turn: what holds of the store and the frames. Assumes nothing.
-use Rattle.std.proofs.Common.{◌≡◌, ℕ, suc, ◌+◌, ◌-◌, ◌%◌, ◌<◌, ◌≤◌, min, List, [], length, get_or, take, set, sym, ap, ◌∙◌, subst, add-one, arith, length-set, length-take, get_or-set_other, get_or-set_same, take-take}
+-- A walk in a loop, turn by turn: what holds of the table and the frames. Assumes nothing.
+use Rattle.std.proofs.Common.{◌≡◌, ℕ, suc, ◌+◌, ◌-◌, ◌<◌, ◌≤◌, List, [], length, get_or, set, Ok, Err, Result, sym, refl, ap, ◌∙◌, subst, add-one, arith, length-set, get_or-set_other, get_or-set_same}
 use lib.Seq.{take-length}
 use Rattle.mvl.specs.Charts.{chart_meaning}
 use Rattle.mvl.specs.declared.chart.Chart.{Chart}
 use Rattle.mvl.specs.declared.refusal.Refusal.{Refusal}
-use Rattle.mvl.specs.Charted.{chart_laws}
-use Rattle.diagrams.specs.Diagram.{Stands, Of}
-use Rattle.diagrams.specs.Walk.{Fair, TaskOf, child, Settles, Needs, Walk as Way, Task as Pair}
+use Rattle.diagrams.specs.Diagram.{population}
+use Rattle.diagrams.specs.Make.{Asks}
+use Rattle.diagrams.specs.Build.{Gains, lacking}
+use Rattle.diagrams.specs.Walk.{Fair, TaskOf, meant, child, Settles, Needs, Walk as Way, Task as Pair}
 use Rattle.diagrams.proofs.Walk.Stack.{Piece, Opens, Extends}
 use Rattle.diagrams.proofs.Walk.Frames.{fills_set, pushes_set}
 use Rattle.diagrams.proofs.Walk.Measure.{left, left_fill, left_push, left_pop}
 use Rattle.diagrams.proofs.Walk.Work.{Start, Working, settled_gains, working_start, working_fill, done_few, next_of, settled_serves, push_low, working_push, top_needs}
 use Rattle.diagrams.proofs.Walk.Full.{top_asks, top_lacks, top_gains, top_serves}
 use Rattle.tables.specs.declared.parts.edge.Edge.{Edge}
-use Rattle.tables.specs.declared.parts.node.Node.{Node}
 use Rattle.tables.specs.declared.parts.card.Card.{Card}
 use Rattle.tables.specs.declared.parts.store.Store.{Store}
 use Rattle.tables.specs.declared.engine.task.Task.{Task}
 use Rattle.tables.specs.declared.engine.frame.Frame.{Frame}
+use Rattle.tables.specs.declared.parts.holding.Diagrams.{Diagrams}
 use Rattle.tables.specs.Edges.{arrow, arrows, unused}
 use Rattle.tables.specs.Records.{nodes_in}
 use Rattle.tables.specs.Cards.{shape_of, capacity_of}
 use Rattle.tables.specs.Stores.{items}
-use Rattle.tables.specs.Sounds.{Whole, Grows}
-use Rattle.tables.specs.Makes.{AsksNode, HasMade, LacksRoom}
-use Rattle.tables.specs.Walks.{task_of, Begins, Extended, Leads, Gained, Short}
-use Rattle.tables.proofs.Goals.{goal_node}
-use Rattle.tables.proofs.CardFacts.{shape_laws_of}
-use Rattle.tables.proofs.Appending.{population_is, has_record}
-
--- records that were added at the end
-pub grows_long : (xs ys : List Node) → Grows xs ys → length xs ≤ length ys
-grows_long xs ys g = let e : min (length xs) (length ys) ≡ length xs = sym (length-take (length xs) ys) ∙ ap length g in omega arith
-
-grows_trans : (xs ys zs : List Node) → Grows xs ys → Grows ys zs → Grows xs zs
-grows_trans xs ys zs g h = sym (take-take (length xs) (length ys) zs (grows_long xs ys g)) ∙ ap (take (length xs)) h ∙ g
+use Rattle.tables.specs.Sounds.{Grows}
+use Rattle.tables.specs.Did.{meaning_of, nodes_of}
+use Rattle.tables.specs.Makes.{Grown, HasMade, LacksRoom}
+use Rattle.tables.specs.Walks.{task_of, Begins, Extended, Gained, Short, Walks}
+use Rattle.tables.proofs.Facts.{laws, shape_laws, reduced_of}
+use Rattle.tables.proofs.Growing.{grown_same, grown_back, grown_refl, grown_trans}
+use Rattle.tables.proofs.Appending.{population_is}
 
 -- what a frame stands for
 abbrev pub piece_of : Frame → Piece Pair
@@ -63,87 +58,78 @@ extends {f} {g} {r} few e =
       last = ap (λ (es : List Edge). arrows es f.done) e.edges ∙ ap arrow (get_or-set_same f.edges f.done r unused (omega arith));
     }
 
--- what a walk for task t begins with
-pub record Begun (chart : Chart) (card : Card) (store : Store) (w : Way) (t : Task) : Type 0 where
-  pub whole : Whole chart card store
-  pub fair : Fair (chart_meaning chart) (shape_of card) w
-  pub of : TaskOf (chart_meaning chart) (nodes_in (items store)) (task_of t)
+pub walks_grown : {D D' : Diagrams} (w : Way) (t : Task) (r : Result Edge Refusal) → Walks D w t r D' → Grown D D'
+walks_grown w t (Ok r) gained = gained.grown
+walks_grown w t (Err k) short = short.grown
 
--- the invariant
-pub record Inv (chart : Chart) (card : Card) (store₀ : Store) (w : Way) (t₀ : Task) (store : Store) (fs : List Frame) (k : ℕ) : Type 0 where
-  pub begun : Begun chart card store₀ w t₀
-  pub whole : Whole chart card store
-  pub grows : Grows (items store₀) (items store)
-  pub working : Working (chart_meaning chart) (shape_of card) (nodes_in (items store₀)) w (task_of t₀) (nodes_in (items store)) (pieces fs) k
+-- what a walk for task t₀ in table D₀ began with, said of a chart and a card
+abbrev pub Begun : Diagrams → Way → Task → Chart → Card → Type 0
+Begun D₀ w t₀ chart card = Start (chart_meaning chart) (shape_of card) (nodes_of D₀) w (task_of t₀)
+
+-- a walk that begins
+module _ (D : Diagrams) {w : Way} (t : Task) (fair : Fair (meaning_of D) (shape_of D.card) w) (of : TaskOf (meaning_of D) (nodes_of D) (task_of t)) where
+  pub start : Begun D w t D.chart D.card
+  start = record { laws = laws D; shape_laws = shape_laws D; reduced = reduced_of D; fair = fair; task_of = of }
+
+  -- a first task that is settled
+  pub gained_already : (r : Edge) → Settles (meaning_of D) (shape_of D.card) (nodes_of D) w (task_of t) (arrow r) → Gained D w t r D
+  gained_already r settles = record { grown = grown_refl D; gains = settled_gains start settles }
+
+-- the invariant, of what the diagrams are made of
+pub record Inv (D₀ : Diagrams) (w : Way) (t₀ : Task) (chart : Chart) (card : Card) (store : Store) (fs : List Frame) (k : ℕ) : Type 0 where
+  pub same_chart : chart ≡ D₀.chart
+  pub same_card : card ≡ D₀.card
+  pub grows : Grows (items D₀.store) (items store)
+  pub start : Begun D₀ w t₀ chart card
+  pub working : Working (chart_meaning chart) (shape_of card) (nodes_of D₀) w (task_of t₀) (nodes_in (items store)) (pieces fs) k
   pub twelve : length fs ≡ 12
   pub low : k < 12
 
--- an edge of the table can be followed
-leads : {chart : Chart} {card : Card} {store : Store} → Whole chart card store → (x i : ℕ) (e : Edge) → i < get_or card.sizes x 0
-    → Of (chart_meaning chart) (nodes_in (items store)) (arrow e) → Leads chart (items store) x i e
-leads {chart} {card} {store} whole x i e hi of =
-    let xs = items store in
+pub begins : (D : Diagrams) {w : Way} {t : Task} → Fair (meaning_of D) (shape_of D.card) w → (fs : List Frame) {y : ℕ}
+    → Needs (meaning_of D) (shape_of D.card) (nodes_of D) w (task_of t) y → Begins t y (frame_at fs 0) → length fs ≡ 12 → Inv D w t D.chart D.card D.store fs 0
+begins D {t = t} fair fs needs first twelve =
+    let begun = start D t fair needs.task_of in
     record {
-      within = λ h. (subst (Stands (chart_meaning chart) (nodes_in xs)) (goal_node (e.word % 16384) h) of.over.stands).0;
-      label = of.over.label_within;
-      labels = λ r h is. (whole.sound.reduced.ordered.over r i (has_record xs r h) (subst (λ y. i < get_or card.sizes y 0) (sym is) hi)).label_within;
+      same_chart = refl;
+      same_card = refl;
+      grows = take-length (items D.store);
+      start = begun;
+      working = working_start begun needs (opens first);
+      twelve = twelve;
+      low = omega arith;
     }
 
-module _ {chart : Chart} {card : Card} {store₀ : Store} {w : Way} {t₀ : Task} (begun : Begun chart card store₀ w t₀) where
-  pub start : Start (chart_meaning chart) (shape_of card) (nodes_in (items store₀)) w (task_of t₀)
-  start = record {
-    laws = chart_laws chart;
-    shape_laws = shape_laws_of card;
-    reduced = begun.whole.sound.reduced;
-    fair = begun.fair;
-    task_of = begun.of;
-  }
+module _ {D₀ : Diagrams} {w : Way} {t₀ : Task} (D : Diagrams) {fs : List Frame} {k : ℕ} (inv : Inv D₀ w t₀ D.chart D.card D.store fs k) where
+  so_far : Grown D₀ D
+  so_far = record { chart = inv.same_chart; card = inv.same_card; grows = inv.grows }
 
-  -- a first task that is settled
-  pub gained_already : (r : Edge) → Settles (chart_meaning chart) (shape_of card) (nodes_in (items store₀)) w (task_of t₀) (arrow r) → Gained chart card store₀ w t₀ r store₀
-  gained_already r settles = record { whole = begun.whole; grows = take-length (items store₀); gains = settled_gains start settles }
+  pub top_within : (frame_at fs k).variable < D.card.n
+  top_within = (top_needs inv.start inv.working).within
 
-  pub begins : (fs : List Frame) {y : ℕ} → Needs (chart_meaning chart) (shape_of card) (nodes_in (items store₀)) w (task_of t₀) y → Begins t₀ y (frame_at fs 0) → length fs ≡ 12
-      → Inv chart card store₀ w t₀ store₀ fs 0
-  begins fs needs first twelve = record {
-    begun = begun;
-    whole = begun.whole;
-    grows = take-length (items store₀);
-    working = working_start start needs (opens first);
-    twelve = twelve;
-    low = omega arith;
-  }
-
-module _ {chart : Chart} {card : Card} {store₀ : Store} {w : Way} {t₀ : Task} {store : Store} {fs : List Frame} {k : ℕ} (inv : Inv chart card store₀ w t₀ store fs k) where
-  pub top_within : (frame_at fs k).variable < card.n
-  top_within = (top_needs (start inv.begun) inv.working).within
+  pub top_task : TaskOf (meaning_of D) (nodes_of D) (task_of (frame_at fs k).task)
+  top_task = (top_needs inv.start inv.working).task_of
 
   -- the frame at the top lacks an edge
-  module _ (less : (frame_at fs k).done < get_or card.sizes (frame_at fs k).variable 0) where
+  module _ (less : (frame_at fs k).done < get_or D.card.sizes (frame_at fs k).variable 0) where
     pub top_few : (frame_at fs k).done < 4
-    top_few = done_few (start inv.begun) inv.working less
+    top_few = done_few inv.start inv.working less
 
-    pub left_leads : Leads chart (items store) (frame_at fs k).variable (frame_at fs k).done (frame_at fs k).task.left
-    left_leads = leads inv.whole _ _ (frame_at fs k).task.left less (top_needs (start inv.begun) inv.working).task_of.left
-
-    pub right_leads : Leads chart (items store) (frame_at fs k).variable (frame_at fs k).done (frame_at fs k).task.right
-    right_leads = leads inv.whole _ _ (frame_at fs k).task.right less (top_needs (start inv.begun) inv.working).task_of.right
-
-    module _ (t : Task) (is : task_of t ≡ child (chart_meaning chart) (nodes_in (items store)) (frame_at fs k).variable (frame_at fs k).done (task_of (frame_at fs k).task)) where
-      pub next_task : TaskOf (chart_meaning chart) (nodes_in (items store)) (task_of t)
-      next_task = next_of (start inv.begun) inv.working less is
+    module _ (t : Task) (is : task_of t ≡ child (meaning_of D) (nodes_of D) (frame_at fs k).variable (frame_at fs k).done (task_of (frame_at fs k).task)) where
+      pub next_task : TaskOf (meaning_of D) (nodes_of D) (task_of t)
+      next_task = next_of inv.start inv.working less is
 
       module _ (r : Edge) {g : Frame} (more : Extended (frame_at fs k) r g)
-          (settles : Settles (chart_meaning chart) (shape_of card) (nodes_in (items store)) w (task_of t) (arrow r)) where
-        pub fill_again : Inv chart card store₀ w t₀ store (set fs k g) k
+          (settles : Settles (meaning_of D) (shape_of D.card) (nodes_of D) w (task_of t) (arrow r)) where
+        pub fill_again : Inv D₀ w t₀ D.chart D.card D.store (set fs k g) k
         fill_again =
             let low = inv.low in
             let twelve = inv.twelve in
             record {
-              begun = inv.begun;
-              whole = inv.whole;
+              same_chart = inv.same_chart;
+              same_card = inv.same_card;
               grows = inv.grows;
-              working = working_fill (settled_serves (start inv.begun) inv.working less is settles) (fills_set piece_of idle fs g (omega arith) (extends top_few more));
+              start = inv.start;
+              working = working_fill (settled_serves inv.start inv.working less is settles) (fills_set piece_of idle fs g (omega arith) (extends top_few more));
               twelve = length-set fs k g ∙ inv.twelve;
               low = inv.low;
             }
@@ -154,21 +140,22 @@ module _ {chart : Chart} {card : Card} {store₀ : Store} {w : Way} {t₀ : Task
             let twelve = inv.twelve in
             left_fill (fills_set piece_of idle fs g (omega arith) (extends top_few more)) top_few
 
-      module _ {y : ℕ} (needs : Needs (chart_meaning chart) (shape_of card) (nodes_in (items store)) w (task_of t) y) where
+      module _ {y : ℕ} (needs : Needs (meaning_of D) (shape_of D.card) (nodes_of D) w (task_of t) y) where
         pub push_room : k + 1 < 12
-        push_room = omega (arith, push_low (start inv.begun) inv.working less is needs, card.few)
+        push_room = omega (arith, push_low inv.start inv.working less is needs, D.card.few)
 
         module _ {g : Frame} (first : Begins t y g) where
-          pub push_again : Inv chart card store₀ w t₀ store (set fs (k + 1) g) (k + 1)
+          pub push_again : Inv D₀ w t₀ D.chart D.card D.store (set fs (k + 1) g) (k + 1)
           push_again =
               let room = push_room in
               let twelve = inv.twelve in
-              subst (λ (n : ℕ). Inv chart card store₀ w t₀ store (set fs n g) n) (sym (add-one k))
+              subst (λ (n : ℕ). Inv D₀ w t₀ D.chart D.card D.store (set fs n g) n) (sym (add-one k))
               (record {
-                begun = inv.begun;
-                whole = inv.whole;
+                same_chart = inv.same_chart;
+                same_card = inv.same_card;
                 grows = inv.grows;
-                working = working_push (start inv.begun) inv.working less is needs (pushes_set piece_of idle fs g (omega arith) (opens first));
+                start = inv.start;
+                working = working_push inv.start inv.working less is needs (pushes_set piece_of idle fs g (omega arith) (opens first));
                 twelve = length-set fs (suc k) g ∙ inv.twelve;
                 low = omega arith;
               })
@@ -181,50 +168,57 @@ module _ {chart : Chart} {card : Card} {store₀ : Store} {w : Way} {t₀ : Task
               (left_push (pushes_set piece_of idle fs g (omega arith) (opens first)) top_few inv.low)
 
   -- it has them all
-  module _ (all : get_or card.sizes (frame_at fs k).variable 0 ≤ (frame_at fs k).done) where
-    pub full_asks : AsksNode (chart_meaning chart) (shape_of card) (items store) (frame_at fs k).variable (frame_at fs k).edges
-    full_asks =
-        let asks = top_asks (start inv.begun) inv.working all in
-        record { within = asks.within; of = asks.of; below = asks.below }
+  module _ (all : get_or D.card.sizes (frame_at fs k).variable 0 ≤ (frame_at fs k).done) where
+    pub full_asks : Asks (meaning_of D) (shape_of D.card) (nodes_of D) (frame_at fs k).variable (arrows (frame_at fs k).edges)
+    full_asks = top_asks inv.start inv.working all
 
     -- there is no room for its node
-    pub full_short : {why : Refusal} {after : Store} → Whole chart card after
-        → LacksRoom (chart_meaning chart) (shape_of card) (items store) (frame_at fs k).variable (frame_at fs k).edges (capacity_of card) why (items after)
-        → Short chart card store₀ w t₀ why after
-    full_short whole lack = record {
-      whole = whole;
-      grows = subst (Grows (items store₀)) (sym lack.same) inv.grows;
-      is = lack.is;
-      lacks = omega (arith, top_lacks (start inv.begun) inv.working all lack.unlike lack.missing, lack.full, population_is (items store));
-    }
+    pub full_short : {why : Refusal} {D' : Diagrams} → LacksRoom D (frame_at fs k).variable (frame_at fs k).edges why D' → Short D₀ w t₀ why D'
+    full_short {why} lack =
+        subst (Short D₀ w t₀ why) (sym lack.same)
+        (record {
+          grown = so_far;
+          is = lack.is;
+          lacks = grown_back so_far
+              (λ chart card.
+              capacity_of card + 1
+              ≤ population (nodes_of D₀) + lacking (chart_meaning chart) (shape_of card) (nodes_of D₀) (meant (chart_meaning chart) (shape_of card) (nodes_of D₀) w (task_of t₀)))
+              (omega (arith, top_lacks inv.start inv.working all lack.unlike lack.missing, lack.full, population_is (items D.store)));
+        })
 
-    module _ {after : Store} {r : Edge} (whole : Whole chart card after)
-        (made : HasMade (chart_meaning chart) (shape_of card) (items store) (frame_at fs k).variable (frame_at fs k).edges r (items after)) where
-      grows_on : Grows (items store₀) (items after)
-      grows_on = grows_trans (items store₀) (items store) (items after) inv.grows made.grows
-
+    module _ {D' : Diagrams} {r : Edge} (made : HasMade D (frame_at fs k).variable (frame_at fs k).edges r D') where
       -- it is the last
-      pub full_gained : k ≡ 0 → Gained chart card store₀ w t₀ r after
-      full_gained last = record { whole = whole; grows = grows_on; gains = top_gains (start inv.begun) inv.working all made.makes last }
+      pub full_gained : k ≡ 0 → Gained D₀ w t₀ r D'
+      full_gained last = record {
+        grown = grown_trans so_far made.grown;
+        gains = grown_back so_far
+            (λ chart card.
+            Gains (chart_meaning chart) (shape_of card) (nodes_of D₀) (meant (chart_meaning chart) (shape_of card) (nodes_of D₀) w (task_of t₀)) (nodes_of D') (arrow r))
+            (top_gains inv.start inv.working all made.makes last);
+      }
 
       -- it is the next edge of the frame below
       module _ (some : 0 < k) where
         pub below_few : (frame_at fs (k - 1)).done < 4
         below_few =
-            let serves = top_serves (start inv.begun) inv.working all made.makes {j = k - 1} (omega arith) in
-            done_few (start inv.begun) serves.working serves.less
+            let serves = top_serves inv.start inv.working all made.makes {j = k - 1} (omega arith) in
+            done_few inv.start serves.working serves.less
 
         module _ {g : Frame} (more : Extended (frame_at fs (k - 1)) r g) where
-          pub pop_again : Inv chart card store₀ w t₀ after (set fs (k - 1) g) (k - 1)
+          pub pop_again : Inv D₀ w t₀ D'.chart D'.card D'.store (set fs (k - 1) g) (k - 1)
           pop_again =
+              let so_on = grown_trans so_far made.grown in
               let low = inv.low in
               let twelve = inv.twelve in
               record {
-                begun = inv.begun;
-                whole = whole;
-                grows = grows_on;
-                working = working_fill (top_serves (start inv.begun) inv.working all made.makes (omega arith))
-                    (fills_set piece_of idle fs g (omega arith) (extends below_few more));
+                same_chart = so_on.chart;
+                same_card = so_on.card;
+                grows = so_on.grows;
+                start = grown_same made.grown (Begun D₀ w t₀) inv.start;
+                working = grown_same made.grown
+                    (λ chart card. Working (chart_meaning chart) (shape_of card) (nodes_of D₀) w (task_of t₀) (nodes_of D') (pieces (set fs (k - 1) g)) (k - 1))
+                    (working_fill (top_serves inv.start inv.working all made.makes (omega arith))
+                    (fills_set piece_of idle fs g (omega arith) (extends below_few more)));
                 twelve = length-set fs (k - 1) g ∙ inv.twelve;
                 low = omega arith;
               }

@@ -1,27 +1,26 @@
 -- What a store with no record keeps. Assumes nothing.
-use Rattle.std.proofs.Common.{◌≡◌, ℕ, zero, suc, List, [], get_or, replicate, sym, refl, subst₂, arith}
+use Rattle.std.proofs.Common.{◌≡◌, List, [], replicate, sym, subst, arith}
+use Rattle.std.proofs.lemmas.List.{get_or-replicate}
 use Rattle.mvl.specs.Labels.{Meaning}
 use Rattle.diagrams.specs.Shape.{Shape, ShapeLaws}
 use Rattle.diagrams.proofs.Calls.Room.{empty_sound as table_sound}
 use Rattle.tables.specs.Records.{none, nodes_in}
+use Rattle.tables.specs.Chains.{Chained}
 use Rattle.tables.specs.Sounds.{Sound}
-use Rattle.tables.specs.declared.parts.node.Link.{Link}
 use Rattle.tables.specs.declared.parts.node.Node.{Node}
 
-same_replicate : (n h : ℕ) → get_or (replicate n none) h none ≡ none
-same_replicate zero h = refl
-same_replicate (suc n) zero = refl
-same_replicate (suc n) (suc h) = same_replicate n h
+none_chained : Chained [] (replicate 1024 none)
+none_chained = record {
+  links = λ r h. absurd (omega arith);
+  heads = λ h b. rw (get_or-replicate 1024 h none none b) (record { early = omega arith; latest = λ q l e. absurd (omega arith); alike = λ l. absurd (omega arith) });
+}
 
-none_sound : (m : Meaning) (s : Shape) → ShapeLaws s → Sound m s [] (replicate 1024 none)
+-- no record, and no chain
+pub empty_chained : {xs : List Node} → xs ≡ [] → Chained xs (replicate 1024 none)
+empty_chained e = subst (λ (xs : List Node). Chained xs (replicate 1024 none)) (sym e) none_chained
+
+pub none_sound : (m : Meaning) (s : Shape) → ShapeLaws s → Sound m s []
 none_sound m s sl = record {
   reduced = (table_sound m (record { shape = s; nodes = nodes_in []; capacity = 0 }) (record { shape_laws = sl; none = λ r h. let b = h.0 in omega arith })).reduced;
   fills = λ r i h b c. absurd (omega arith);
-  chained = record {
-    links = λ r h. absurd (omega arith);
-    heads = λ h b. rw (same_replicate 1024 h) (record { early = omega arith; latest = λ q l e. absurd (omega arith); alike = λ l. absurd (omega arith) });
-  };
 }
-
-pub empty_sound : (m : Meaning) (s : Shape) (xs : List Node) (tops : List Link) → ShapeLaws s → xs ≡ [] → tops ≡ replicate 1024 none → Sound m s xs tops
-empty_sound m s xs tops sl e f = subst₂ (Sound m s) (sym e) (sym f) (none_sound m s sl)

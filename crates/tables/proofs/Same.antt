@@ -1,12 +1,17 @@
 -- Records that are the same. Assumes nothing.
-use Rattle.std.proofs.Common.{◌≡◌, ℕ, zero, suc, ◌-◌, ◌/◌, ◌%◌, ◌<◌, ◌≤◌, T, eqb, ◌⊎◌, List, sym, ap, ◌∙◌, inl, inr, arith, eqb→eq}
+use Rattle.std.proofs.Common.{◌≡◌, ℕ, zero, suc, ◌-◌, ◌/◌, ◌%◌, ◌<◌, ◌≤◌, ◌⊎◌, ◌≢◌, Bool, T, true, false, eqb, ◌&&◌, List, [], ◌∷◌, length, take, sym, refl, ap, ◌∙◌, inl, inr, arith, eqb→eq, length-take-le, get_or-take}
+use Rattle.std.specs.Bool.{MatchBool}
+use Rattle.std.specs.List.{AllWithin, HoldsAt}
+use lib.Pointwise.{pointwise}
 use Rattle.std.proofs.lemmas.Bool.{cases_lt}
+use Rattle.mvl.specs.Tests.{passed, and_left, and_right, and_both, equal_passes}
 use Rattle.diagrams.specs.Diagram.{terminal, node, Edge as Arrow}
-use Rattle.mvl.specs.Tests.{and_left, and_right, and_both, equal_passes}
-use Rattle.tables.specs.Edges.{goal, arrow, word_at}
-use Rattle.tables.specs.Records.{same_node, hash_of}
+use Rattle.tables.specs.Edges.{goal, arrow, unused, word_at}
+use Rattle.tables.specs.Records.{hash_of, SameKey}
+use Rattle.tables.specs.Finds.{Alikes}
 use Rattle.tables.specs.declared.parts.edge.Edge.{Edge}
-use Rattle.tables.specs.declared.parts.node.Node.{Node}
+use Rattle.tables.specs.declared.parts.key.Key.{Key}
+use Rattle.tables.proofs.Refused.{failed}
 use Rattle.tables.proofs.Goals.{goal_terminal, goal_node}
 
 -- a target has one number
@@ -29,42 +34,49 @@ arrow_apart e f p =
 pub arrow_same : (e f : Edge) → e.word ≡ f.word → arrow e ≡ arrow f
 arrow_same e f p = ap (λ (w : ℕ). record { label = w / 16384; target = goal (w % 16384) }) p
 
-four : (P : ℕ → Type 0) → P 0 → P 1 → P 2 → P 3 → (i : ℕ) → i < 4 → P i
-four P a b c d zero h = a
-four P a b c d (suc zero) h = b
-four P a b c d (suc (suc zero)) h = c
-four P a b c d (suc (suc (suc zero))) h = d
-four P a b c d (suc (suc (suc (suc i)))) h = absurd (omega arith)
+-- keys that are the same have one chain
+pub same_hash : {k l : Key} → SameKey k l → hash_of k ≡ hash_of l
+same_hash s =
+    let v = s.variable in
+    let a = s.edges 0 (omega arith) in
+    let b = s.edges 1 (omega arith) in
+    let c = s.edges 2 (omega arith) in
+    let d = s.edges 3 (omega arith) in
+    cc
 
-module _ (n : Node) (x : ℕ) (es : List Edge) where
-  pub same_variable : T (same_node n x es) → n.variable ≡ x
-  same_variable t = eqb→eq n.variable x (and_left (eqb n.variable x) _ t)
+-- where the code's test says no, they are not the same
+same_words : (es fs : List Edge) → length es ≡ length fs → ((i : ℕ) → i < length es → word_at es i ≡ word_at fs i) → T (pointwise (λ (e f : Edge). eqb e.word f.word) es fs)
+same_words [] [] long all = tt
+same_words [] (f ∷ fs) long all = absurd (omega arith)
+same_words (e ∷ es) [] long all = absurd (omega arith)
+same_words (e ∷ es) (f ∷ fs) long all =
+    and_both (eqb e.word f.word) _ (equal_passes (all 0 (omega arith))) (same_words es fs (omega arith) (λ i h. all (suc i) (omega arith)))
 
-  pub same_words : T (same_node n x es) → (i : ℕ) → i < 4 → word_at n.edges i ≡ word_at es i
-  same_words t =
-      let a = and_right (eqb n.variable x) _ t in
-      let b = and_right (eqb (word_at n.edges 0) (word_at es 0)) _ a in
-      let c = and_right (eqb (word_at n.edges 1) (word_at es 1)) _ b in
-      let d = and_right (eqb (word_at n.edges 2) (word_at es 2)) (eqb (word_at n.edges 3) (word_at es 3)) c in
-      four (λ i. word_at n.edges i ≡ word_at es i)
-      (eqb→eq (word_at n.edges 0) (word_at es 0) (and_left (eqb (word_at n.edges 0) (word_at es 0)) _ a))
-      (eqb→eq (word_at n.edges 1) (word_at es 1) (and_left (eqb (word_at n.edges 1) (word_at es 1)) _ b))
-      (eqb→eq (word_at n.edges 2) (word_at es 2) (and_left (eqb (word_at n.edges 2) (word_at es 2)) (eqb (word_at n.edges 3) (word_at es 3)) c))
-      (eqb→eq (word_at n.edges 3) (word_at es 3) d)
+pub other_key : {k l : Key} → length k.edges ≡ 4 → length l.edges ≡ 4
+    → false ≡ (eqb k.variable l.variable && pointwise (λ (e f : Edge). eqb e.word f.word) k.edges l.edges) → SameKey k l → ⊥
+other_key {k} {l} four four' other s =
+    failed other (and_both (eqb k.variable l.variable) _ (equal_passes s.variable) (same_words k.edges l.edges (omega arith) (λ i h. s.edges i (omega arith))))
 
-  pub words_same : n.variable ≡ x → ((i : ℕ) → i < 4 → word_at n.edges i ≡ word_at es i) → T (same_node n x es)
-  words_same v all =
-      and_both (eqb n.variable x) _ (equal_passes v)
-      (and_both (eqb (word_at n.edges 0) (word_at es 0)) _ (equal_passes (all 0 (omega arith)))
-      (and_both (eqb (word_at n.edges 1) (word_at es 1)) _ (equal_passes (all 1 (omega arith)))
-      (and_both (eqb (word_at n.edges 2) (word_at es 2)) (eqb (word_at n.edges 3) (word_at es 3)) (equal_passes (all 2 (omega arith))) (equal_passes (all 3 (omega arith))))))
+-- where it says yes, they are
+words_of : (es fs : List Edge) → T (pointwise (λ (e f : Edge). eqb e.word f.word) es fs) → (i : ℕ) → word_at es i ≡ word_at fs i
+words_of [] [] t i = refl
+words_of [] (f ∷ fs) t i = absurd t
+words_of (e ∷ es) [] t i = absurd t
+words_of (e ∷ es) (f ∷ fs) t zero = eqb→eq e.word f.word (and_left (eqb e.word f.word) _ t)
+words_of (e ∷ es) (f ∷ fs) t (suc i) = words_of es fs (and_right (eqb e.word f.word) _ t) i
 
-  pub same_hash : T (same_node n x es) → hash_of n.variable n.edges ≡ hash_of x es
-  same_hash t =
-      let v = same_variable t in
-      let w = same_words t in
-      let a = w 0 (omega arith) in
-      let b = w 1 (omega arith) in
-      let c = w 2 (omega arith) in
-      let d = w 3 (omega arith) in
-      cc
+pub same_key : {k l : Key} → true ≡ (eqb k.variable l.variable && pointwise (λ (e f : Edge). eqb e.word f.word) k.edges l.edges) → SameKey k l
+same_key {k} {l} same = record {
+  variable = eqb→eq k.variable l.variable (and_left (eqb k.variable l.variable) _ (passed (sym same)));
+  edges = λ i h. words_of k.edges l.edges (and_right (eqb k.variable l.variable) _ (passed (sym same))) i;
+}
+
+-- what a test of the first edges, one after the other, says of them
+pub alikes : (es : List Edge) (size : ℕ) (r : Bool) → size ≤ length es
+    → MatchBool r (AllWithin (λ (e : Edge). e.word ≡ word_at es 0) (take size es) 0 (length (take size es))) ((k : ℕ) × (k < length (take size es)) × HoldsAt (λ (e : Edge). e.word ≢ word_at es 0) (take size es) k)
+    → Alikes es size r
+alikes es size true fit all = λ i h.
+    ap (λ (e : Edge). e.word) (sym (get_or-take size es i unused h)) ∙ all i unused (omega arith) (omega (arith, eqb→eq, length-take-le size es fit))
+alikes es size false fit (k, h, other) = λ all.
+    let low : k < size = omega (arith, eqb→eq, length-take-le size es fit) in
+    other unused (ap (λ (e : Edge). e.word) (get_or-take size es k unused low) ∙ all k low)

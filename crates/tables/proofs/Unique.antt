@@ -1,69 +1,19 @@
 -- What a table keeps holds in one way at most, so it comes out of its truncation. Assumes nothing.
-use Rattle.std.proofs.Common.{ℕ, List}
+use Rattle.std.proofs.Common.{List}
 use mathlib.Core.Logic.{∥∥₁_elim}
-use native.Mathlib.Bridge.{le_prop}
-use lib.Dec.{T_prop}
-use std.HLevel.{⊥_prop}
-use Rattle.mvl.specs.Labels.{Meaning}
-use Rattle.diagrams.specs.Diagram.{Target, terminal, node, Edge as Arrow, Nodes, Stands, Over, Ordered, AtHome, Reduced}
-use Rattle.diagrams.specs.Shape.{Shape}
-use Rattle.tables.specs.Chains.{Latest, Chained}
-use Rattle.tables.specs.Sounds.{Sound}
 use Rattle.mvl.specs.Unique.{ℕ-prop}
-use Rattle.tables.specs.declared.parts.node.Link.{Link}
+use Rattle.mvl.specs.Labels.{Meaning}
+use Rattle.diagrams.specs.Shape.{Shape}
+use Rattle.diagrams.proofs.Unique.{Reduced-prop}
+use Rattle.tables.specs.Sounds.{Sound}
 use Rattle.tables.specs.declared.parts.node.Node.{Node}
 
--- the four rules
-
-pub Stands-prop : (m : Meaning) (d : Nodes) (t : Target) → IsProp (Stands m d t)
-Stands-prop m d (terminal v) = le_prop
-Stands-prop m d (node r) = λ x y. λ i. (le_prop x.0 y.0 i, T_prop (d.held r) x.1 y.1 i)
-
-pub Over-prop : (m : Meaning) (d : Nodes) (e : Arrow) → IsProp (Over m d e)
-Over-prop m d e x y = λ i. record { label_within = le_prop x.label_within y.label_within i; stands = Stands-prop m d e.target x.stands y.stands i }
-
-pub Ordered-prop : (m : Meaning) (s : Shape) (d : Nodes) → IsProp (Ordered m s d)
-Ordered-prop m s d x y = λ i. record {
-  variable_within = λ r h. le_prop (x.variable_within r h) (y.variable_within r h) i;
-  over = λ r k h b. Over-prop m d (d.edge r k) (x.over r k h b) (y.over r k h b) i;
-  below = λ r k h b. le_prop (x.below r k h b) (y.below r k h b) i;
-}
-
-pub AtHome-prop : (m : Meaning) (t : Target) → IsProp (AtHome m t)
-AtHome-prop m (terminal v) = ℕ-prop
-AtHome-prop m (node r) = λ x y. λ i. tt
-
-pub Reduced-prop : (m : Meaning) (s : Shape) (d : Nodes) → IsProp (Reduced m s d)
-Reduced-prop m s d x y = λ i. record {
-  ordered = Ordered-prop m s d x.ordered y.ordered i;
-  homes = λ r k h b. AtHome-prop m (d.edge r k).target (x.homes r k h b) (y.homes r k h b) i;
-  zero_label = λ r h. ℕ-prop (x.zero_label r h) (y.zero_label r h) i;
-  not_alike = λ r h f. ⊥_prop (x.not_alike r h f) (y.not_alike r h f) i;
-  no_twin = λ q r hq hr v f. ℕ-prop (x.no_twin q r hq hr v f) (y.no_twin q r hq hr v f) i;
-}
-
--- the records
-
-pub Latest-prop : (xs : List Node) (n h l : ℕ) → IsProp (Latest xs n h l)
-Latest-prop xs n h l x y = λ i. record {
-  early = le_prop x.early y.early i;
-  latest = λ q b e. le_prop (x.latest q b e) (y.latest q b e) i;
-  alike = λ b. ℕ-prop (x.alike b) (y.alike b) i;
-}
-
-pub Chained-prop : (xs : List Node) (tops : List Link) → IsProp (Chained xs tops)
-Chained-prop xs tops x y = λ i. record {
-  links = λ r h. Latest-prop xs _ _ _ (x.links r h) (y.links r h) i;
-  heads = λ k h. Latest-prop xs _ _ _ (x.heads k h) (y.heads k h) i;
-}
-
-module _ {m : Meaning} {s : Shape} {xs : List Node} {tops : List Link} where
-  pub Sound-prop : IsProp (Sound m s xs tops)
+module _ {m : Meaning} {s : Shape} {xs : List Node} where
+  pub Sound-prop : IsProp (Sound m s xs)
   Sound-prop x y = λ i. record {
     reduced = Reduced-prop m s _ x.reduced y.reduced i;
     fills = λ r k h b c. ℕ-prop (x.fills r k h b c) (y.fills r k h b c) i;
-    chained = Chained-prop xs tops x.chained y.chained i;
   }
 
-  pub sound_out : ∥ Sound m s xs tops ∥₁ → Sound m s xs tops
+  pub sound_out : ∥ Sound m s xs ∥₁ → Sound m s xs
   sound_out t = ∥∥₁_elim t Sound-prop (λ s. s)

@@ -1,5 +1,8 @@
 -- When an evaluation is refused. Assumes nothing.
-use Rattle.std.proofs.Common.{◌≡◌, ℕ, ◌<◌, ◌≤◌, true, false, eqb, ltb, List, length, sym, ◌∙◌, arith, eqb→eq, ltb→lt, lt→ltb}
+use Rattle.std.proofs.Common.{◌≡◌, ℕ, ◌<◌, ◌≤◌, Bool, true, false, eqb, ltb, List, length, sym, ◌∙◌, subst, arith, eqb→eq, ltb→lt, lt→ltb}
+use Rattle.std.specs.Bool.{MatchBool}
+use Rattle.std.specs.List.{AllWithin, HoldsAt, zip}
+use Rattle.std.proofs.lemmas.Slice.Zip.{length-zip, get_or-zip}
 use Rattle.mvl.specs.declared.refusal.Refusal.TheVariants.{NoEdge, NoValue, WrongLength}
 use Rattle.mvl.specs.Search.{all_below}
 use Rattle.mvl.specs.Labels.{Meaning}
@@ -9,7 +12,8 @@ use Rattle.diagrams.specs.Shape.{Assignment}
 use Rattle.diagrams.specs.Diagram.{Edge as Arrow}
 use Rattle.diagrams.specs.Calls.{Table}
 use Rattle.diagrams.specs.Refusals.{is_edge, unless}
-use Rattle.tables.specs.Evaluates.{assigned, unreadable, Unread}
+use Rattle.tables.specs.declared.parts.card.Card.{Card}
+use Rattle.tables.specs.Evaluates.{assigned, Allows, unreadable, Unread}
 use Rattle.tables.proofs.Refused.{failed, unless_no, unless_yes}
 
 module _ (m : Meaning) (t : Table) (e : Arrow) (xs : List ℕ) where
@@ -46,3 +50,13 @@ module _ (m : Meaning) (t : Table) (e : Arrow) (xs : List ℕ) where
       readable assigns =
           tested ∙ unless_yes (all_below t.shape.count (λ x. ltb (assigned xs x) (t.shape.size x))) NoValue 0
           (all_below_from t.shape.count (λ x. ltb (assigned xs x) (t.shape.size x)) (λ x h. lt→ltb (assigned xs x) (t.shape.size x) (assigns x h)))
+
+-- values tested against sizes, pair by pair
+pub tested_all : (c : Card) (xs : List ℕ) → length xs ≤ length c.sizes → (r : Bool)
+    → MatchBool r (AllWithin (λ (p : ℕ × ℕ). p.0 < p.1) (zip xs c.sizes) 0 (length (zip xs c.sizes))) ((k : ℕ) × (k < length (zip xs c.sizes)) × HoldsAt (λ (p : ℕ × ℕ). p.1 ≤ p.0) (zip xs c.sizes) k)
+    → Allows c xs r
+tested_all c xs fit true all = λ k h.
+    subst (λ (p : ℕ × ℕ). p.0 < p.1) (get_or-zip xs c.sizes k (0, 0) h (omega arith)) (all k (0, 0) (omega arith) (omega (arith, length-zip xs c.sizes)))
+tested_all c xs fit false (k, h, large) =
+    let low : k < length xs = omega (arith, length-zip xs c.sizes) in
+    (k, low, subst (λ (p : ℕ × ℕ). p.1 ≤ p.0) (get_or-zip xs c.sizes k (0, 0) low (omega arith)) (large (0, 0)))

@@ -1,64 +1,82 @@
--- Tasks that are settled. Assumes nothing.
-use Rattle.std.proofs.Common.{◌≡◌, ℕ, ◌+◌, ◌-◌, ◌*◌, ◌/◌, ◌%◌, ◌<◌, ◌≤◌, List, get_or, sym, ◌∙◌, subst, ap₂, ⊎_elim, arith}
+-- Edges that walks follow, and tasks that are settled. Assumes nothing.
+use Rattle.std.proofs.Common.{◌≡◌, ℕ, ◌+◌, ◌-◌, ◌*◌, ◌/◌, ◌%◌, ◌<◌, ◌≤◌, List, get_or, sym, ap, ◌∙◌, subst, ap₂, ⊎_elim, arith}
 use Rattle.std.proofs.lemmas.Bool.{cases_lt}
-use Rattle.mvl.specs.Charts.{chart_meaning}
-use Rattle.mvl.specs.declared.chart.Chart.{Chart}
-use Rattle.mvl.specs.Charted.{chart_laws}
-use Rattle.diagrams.specs.Diagram.{Target, level, Of, Stands}
+use Rattle.diagrams.specs.Diagram.{Target, node, level, Has, Of, Stands}
 use Rattle.diagrams.specs.Build.{constant_edge}
 use Rattle.diagrams.specs.Walk.{applies, restricts, Fair, TaskOf, follow, Settles}
 use Rattle.diagrams.proofs.Walk.Task.{settles_constant, settles_restricted}
 use Rattle.tables.specs.declared.parts.edge.Edge.{Edge}
-use Rattle.tables.specs.declared.parts.card.Card.{Card}
-use Rattle.tables.specs.declared.parts.store.Store.{Store}
+use Rattle.tables.specs.declared.parts.node.Node.{Node}
 use Rattle.tables.specs.declared.engine.task.Task.{Task}
-use Rattle.tables.specs.Edges.{arrow}
-use Rattle.tables.specs.Records.{nodes_in}
+use Rattle.tables.specs.declared.parts.holding.Diagrams.{Diagrams}
+use Rattle.tables.specs.Edges.{arrow, word_at}
+use Rattle.tables.specs.Records.{at}
 use Rattle.tables.specs.Cards.{shape_of}
 use Rattle.tables.specs.Stores.{items}
-use Rattle.tables.specs.Sounds.{Whole}
+use Rattle.tables.specs.Did.{meaning_of, nodes_of}
 use Rattle.tables.specs.Walks.{told, task_of}
 use Rattle.tables.proofs.Goals.{goal_terminal, goal_node}
-use Rattle.tables.proofs.CardFacts.{shape_laws_of}
+use Rattle.tables.proofs.Facts.{laws, shape_laws, reduced_of}
 
-module _ {chart : Chart} {card : Card} {store : Store} (whole : Whole chart card store) where
+module _ (D : Diagrams) where
+  -- the node that an edge of the table leads to, as it was read, at a value of its variable
+  module _ (e : Edge) (of : Of (meaning_of D) (nodes_of D) (arrow e)) {r : ℕ} (leads : node r ≡ (arrow e).target) {n : Node} (is : n ≡ at (items D.store) r)
+      {x i : ℕ} (hi : i < get_or D.card.sizes x 0) (own : n.key.variable ≡ x) where
+    there : Has (nodes_of D) r
+    there = subst (Stands (meaning_of D) (nodes_of D)) (sym leads) of.over.stands
+
+    own_there : (nodes_of D).variable r ≡ x
+    own_there = ap (λ (n : Node). n.key.variable) (sym is) ∙ own
+
+    pub value_few : i < 4
+    value_few = omega (arith, (shape_laws D).size_high x (subst (λ y. y < D.card.n) own_there ((reduced_of D).ordered.variable_within r there)))
+
+    pub label_there : word_at n.key.edges i / 16384 < D.chart.labels
+    label_there =
+        subst (λ (n : Node). word_at n.key.edges i / 16384 < D.chart.labels) (sym is)
+        ((reduced_of D).ordered.over r i there (subst (λ y. i < get_or D.card.sizes y 0) (sym own_there) hi)).label_within
+
   -- what stands below every variable is a terminal
-  pub low_target : (e : Edge) → Of (chart_meaning chart) (nodes_in (items store)) (arrow e)
-      → card.n ≤ level (shape_of card) (nodes_in (items store)) (arrow e).target → e.word % 16384 < 4
+  low_target : (e : Edge) → Of (meaning_of D) (nodes_of D) (arrow e)
+      → D.card.n ≤ level (shape_of D.card) (nodes_of D) (arrow e).target → e.word % 16384 < 4
   low_target e of low =
       ⊎_elim (λ h. h)
       (λ h.
-      let d = nodes_in (items store) in
+      let d = nodes_of D in
       let q = e.word % 16384 - 4 in
       let is = goal_node (e.word % 16384) h in
-      let has = subst (Stands (chart_meaning chart) d) is of.over.stands in
-      let within = (shape_laws_of card).place_within (d.variable q) (whole.sound.reduced.ordered.variable_within q has) in
-      let low' = subst (λ (t : Target). card.n ≤ level (shape_of card) d t) is low in
+      let has = subst (Stands (meaning_of D) d) is of.over.stands in
+      let within = (shape_laws D).place_within (d.variable q) ((reduced_of D).ordered.variable_within q has) in
+      let low' = subst (λ (t : Target). D.card.n ≤ level (shape_of D.card) d t) is low in
       absurd (omega arith))
       (cases_lt (e.word % 16384) 4)
 
+  pub low_value : (e : Edge) → Of (meaning_of D) (nodes_of D) (arrow e)
+      → D.card.n ≤ level (shape_of D.card) (nodes_of D) (arrow e).target → e.word % 16384 < D.chart.radix
+  low_value e of low = subst (Stands (meaning_of D) (nodes_of D)) (goal_terminal _ (low_target e of low)) of.over.stands
+
   -- two terminals give a constant
-  pub settled_pair : (answers : List ℕ) (t : Task) {a b : ℕ} (r : Edge) → Fair (chart_meaning chart) (shape_of card) (applies (told answers))
-      → (of : TaskOf (chart_meaning chart) (nodes_in (items store)) (task_of t))
-      → card.n ≤ level (shape_of card) (nodes_in (items store)) (arrow t.left).target
-      → card.n ≤ level (shape_of card) (nodes_in (items store)) (arrow t.right).target
-      → a ≡ (chart_meaning chart).carry (t.left.word / 16384) (t.left.word % 16384)
-      → b ≡ (chart_meaning chart).carry (t.right.word / 16384) (t.right.word % 16384)
-      → arrow r ≡ constant_edge (chart_meaning chart) (get_or answers (4 * a + b) 0)
-      → Settles (chart_meaning chart) (shape_of card) (nodes_in (items store)) (applies (told answers)) (task_of t) (arrow r)
+  pub settled_pair : (answers : List ℕ) (t : Task) {a b : ℕ} (r : Edge) → Fair (meaning_of D) (shape_of D.card) (applies (told answers))
+      → (of : TaskOf (meaning_of D) (nodes_of D) (task_of t))
+      → D.card.n ≤ level (shape_of D.card) (nodes_of D) (arrow t.left).target
+      → D.card.n ≤ level (shape_of D.card) (nodes_of D) (arrow t.right).target
+      → a ≡ (meaning_of D).carry (t.left.word / 16384) (t.left.word % 16384)
+      → b ≡ (meaning_of D).carry (t.right.word / 16384) (t.right.word % 16384)
+      → arrow r ≡ constant_edge (meaning_of D) (get_or answers (4 * a + b) 0)
+      → Settles (meaning_of D) (shape_of D.card) (nodes_of D) (applies (told answers)) (task_of t) (arrow r)
   settled_pair answers t r fair of low-left low-right is-a is_b is =
-      let m = chart_meaning chart in
-      subst (Settles m (shape_of card) (nodes_in (items store)) (applies (told answers)) (task_of t))
+      let m = meaning_of D in
+      subst (Settles m (shape_of D.card) (nodes_of D) (applies (told answers)) (task_of t))
       (sym (is ∙ ap₂ (λ (a b : ℕ). constant_edge m (told answers a b)) is-a is_b))
-      (settles_constant (chart_laws chart) (shape_laws_of card) whole.sound.reduced fair of (goal_terminal _ (low_target t.left of.left low-left))
+      (settles_constant (laws D) (shape_laws D) (reduced_of D) fair of (goal_terminal _ (low_target t.left of.left low-left))
       (goal_terminal _ (low_target t.right of.right low-right)))
 
   -- an edge that leads to a node of x or below it is followed
-  pub settled_single : {x v : ℕ} (t : Task) (r : Edge) → Fair (chart_meaning chart) (shape_of card) (restricts x v)
-      → TaskOf (chart_meaning chart) (nodes_in (items store)) (task_of t)
-      → get_or card.place x 0 ≤ level (shape_of card) (nodes_in (items store)) (arrow t.left).target
-      → arrow r ≡ follow (chart_meaning chart) (nodes_in (items store)) x v (arrow t.left)
-      → Settles (chart_meaning chart) (shape_of card) (nodes_in (items store)) (restricts x v) (task_of t) (arrow r)
+  pub settled_single : {x v : ℕ} (t : Task) (r : Edge) → Fair (meaning_of D) (shape_of D.card) (restricts x v)
+      → TaskOf (meaning_of D) (nodes_of D) (task_of t)
+      → get_or D.card.place x 0 ≤ level (shape_of D.card) (nodes_of D) (arrow t.left).target
+      → arrow r ≡ follow (meaning_of D) (nodes_of D) x v (arrow t.left)
+      → Settles (meaning_of D) (shape_of D.card) (nodes_of D) (restricts x v) (task_of t) (arrow r)
   settled_single {x} {v} t r fair of low is =
-      subst (Settles (chart_meaning chart) (shape_of card) (nodes_in (items store)) (restricts x v) (task_of t)) (sym is)
-      (settles_restricted (chart_laws chart) (shape_laws_of card) whole.sound.reduced fair of low)
+      subst (Settles (meaning_of D) (shape_of D.card) (nodes_of D) (restricts x v) (task_of t)) (sym is)
+      (settles_restricted (laws D) (shape_laws D) (reduced_of D) fair of low)

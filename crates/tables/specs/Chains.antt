@@ -1,11 +1,11 @@
 -- The chains of records by which a node is found. Assumes nothing.
 use Rattle.std.specs.Prelude.{◌≡◌, ℕ, ◌-◌, ◌<◌, ◌≤◌, List, length, slice_index_or}
-use Rattle.tables.specs.declared.parts.node.Link.{Link}
+use Rattle.tables.specs.declared.parts.link.Link.{Link}
 use Rattle.tables.specs.declared.parts.node.Node.{Node}
 use Rattle.tables.specs.Records.{at, none, hash_of}
 
 abbrev pub hash_at : List Node → ℕ → ℕ
-hash_at xs r = hash_of (at xs r).variable (at xs r).edges
+hash_at xs r = hash_of (at xs r).key
 
 -- l leads to the greatest record below n in chain h, or is none
 pub record Latest (xs : List Node) (n h l : ℕ) : Type 0 where

@@ -10,7 +10,7 @@ use Rattle.diagrams.specs.Calls.{Table, Call, Empty}
 use Rattle.diagrams.specs.Runs.{Answer, edge, refused, Step}
 use Rattle.tables.specs.declared.parts.edge.Edge.{Edge}
 use Rattle.tables.specs.declared.parts.card.Card.{Card}
-use Rattle.tables.specs.declared.calls.holding.Diagrams.{Diagrams}
+use Rattle.tables.specs.declared.parts.holding.Diagrams.{Diagrams}
 use Rattle.tables.specs.Edges.{arrow}
 use Rattle.tables.specs.Records.{nodes_in}
 use Rattle.tables.specs.Cards.{shape_of, capacity_of}

@@ -1,5 +1,5 @@
 -- What an evaluation answers. Assumes nothing.
-use Rattle.std.specs.Prelude.{◌≡◌, ℕ, ◌<◌, ◌≤◌, List, length, Ok, Err, Result, ◌==◌, nat_lt, slice_index}
+use Rattle.std.specs.Prelude.{◌≡◌, ℕ, ◌<◌, ◌≤◌, Bool, true, false, List, length, Ok, Err, Result, ◌==◌, nat_lt, slice_index}
 use Rattle.mvl.specs.declared.refusal.Refusal.{Refusal}
 use Rattle.mvl.specs.declared.refusal.Refusal.TheVariants.{NoEdge, NoValue, WrongLength}
 use Rattle.mvl.specs.Numbers.{number}
@@ -8,11 +8,17 @@ use Rattle.mvl.specs.Labels.{Meaning}
 use Rattle.diagrams.specs.Diagram.{Edge as Arrow, value, visits}
 use Rattle.diagrams.specs.Calls.{Table}
 use Rattle.diagrams.specs.Refusals.{is_edge, unless}
+use Rattle.tables.specs.declared.parts.card.Card.{Card}
 use Rattle.tables.specs.declared.calls.reading.Reading.{Reading}
 
 -- what a row gives each variable
 abbrev pub assigned : List ℕ → ℕ → ℕ
 assigned xs x = slice_index xs x
+
+-- whether each value is below the size of its variable
+abbrev pub Allows : Card → List ℕ → Bool → Type 0
+Allows c xs true = (x : ℕ) → x < length xs → assigned xs x < slice_index c.sizes x
+Allows c xs false = (x : ℕ) × (x < length xs) × (slice_index c.sizes x ≤ assigned xs x)
 
 -- the number with which an evaluation is refused; 0 where it is granted. The entries are tested only where there are as many as variables
 abbrev pub unreadable : Meaning → Table → Arrow → List ℕ → ℕ

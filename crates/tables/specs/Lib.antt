@@ -1,6 +1,7 @@
 pub mod Edges
 pub mod Records
 pub mod Chains
+pub mod Unique
 pub mod Orders
 pub mod Cards
 pub mod Stores
@@ -10,4 +11,5 @@ pub mod Makes
 pub mod Did
 pub mod Evaluates
 pub mod Walks
-pub mod Walked
+pub mod Tested
+pub mod Does

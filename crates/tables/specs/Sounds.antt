@@ -1,30 +1,16 @@
--- What the records of a table keep, and the parts of a table together. Assumes nothing.
+-- What the records of a table keep. Assumes nothing.
 use Rattle.std.specs.Prelude.{◌≡◌, ℕ, ◌<◌, ◌≤◌, List, length, take}
 use Rattle.mvl.specs.Labels.{Meaning}
-use Rattle.mvl.specs.Charts.{chart_meaning}
-use Rattle.mvl.specs.declared.chart.Chart.{Chart}
 use Rattle.diagrams.specs.Shape.{Shape}
 use Rattle.diagrams.specs.Diagram.{Reduced}
-use Rattle.tables.specs.declared.parts.node.Link.{Link}
 use Rattle.tables.specs.declared.parts.node.Node.{Node}
-use Rattle.tables.specs.declared.parts.card.Card.{Card}
-use Rattle.tables.specs.declared.parts.store.Store.{Store}
 use Rattle.tables.specs.Edges.{word_at}
 use Rattle.tables.specs.Records.{at, nodes_in}
-use Rattle.tables.specs.Chains.{Chained}
-use Rattle.tables.specs.Cards.{shape_of, capacity_of}
-use Rattle.tables.specs.Stores.{items, heads, limit_of}
 
--- the four rules, unused edges that are edge 0, and the chains
-pub record Sound (m : Meaning) (s : Shape) (xs : List Node) (tops : List Link) : Type 0 where
+-- the four rules, and unused edges that are edge 0
+pub record Sound (m : Meaning) (s : Shape) (xs : List Node) : Type 0 where
   pub reduced : Reduced m s (nodes_in xs)
-  pub fills : (r i : ℕ) → r < length xs → s.size (at xs r).variable ≤ i → i < 4 → word_at (at xs r).edges i ≡ 0
-  pub chained : Chained xs tops
-
--- a chart, a card and a store that belong together
-pub record Whole (chart : Chart) (card : Card) (store : Store) : Type 0 where
-  pub room : limit_of store ≡ capacity_of card
-  pub sound : Sound (chart_meaning chart) (shape_of card) (items store) (heads store)
+  pub fills : (r i : ℕ) → r < length xs → s.size (at xs r).key.variable ≤ i → i < 4 → word_at (at xs r).key.edges i ≡ 0
 
 -- records were added at the end, and none was changed
 abbrev pub Grows : List Node → List Node → Type 0

@@ -2,8 +2,8 @@
 
 pub(crate) mod asking;
 pub(crate) mod evaluating;
-pub(crate) mod holding;
 pub mod reading;
 pub mod table;
+pub(crate) mod testing;
 pub(crate) mod variables;
 pub(crate) mod walks;

@@ -6,12 +6,13 @@ ghost use Rattle.diagrams.specs.Refusals.{is_edge};
 ghost use Rattle.tables.specs.Edges.{arrow};
 ghost use Rattle.tables.specs.Did.{meaning_of, nodes_of, answer_of, Did, Opens};
 
-use crate::calls::holding::Diagrams;
 use crate::engine::labels::{home, product};
 use crate::engine::rows::constant_edge;
 use crate::parts::card::Card;
 use crate::parts::edge::Edge;
+use crate::parts::holding::Diagrams;
 use crate::parts::store::Store;
+use crate::parts::target::Target;
 use mvl::chart::Chart;
 use mvl::refusal::Refusal;
 use std::alloc::{AllocError, Global};
@@ -28,18 +29,13 @@ impl Diagrams {
     pub(crate) fn has(&self, e: Edge) -> bool
         ensures { result ≡ is_edge (meaning_of self.now) (nodes_of self.now) (arrow e) }
     {
-        let t = e.target();
         if e.label() >= self.chart.labels {
             return false;
         }
-        if t >= 4 {
-            return ((t - 4) as usize) < self.store.len();
+        match e.target() {
+            Target::Terminal(v) => v < self.chart.radix && home(&self.chart, v) == v,
+            Target::Node(r) => r < self.store.len(),
         }
-        let v = t as u8;
-        if v >= self.chart.radix {
-            return false;
-        }
-        home(&self.chart, v) == v
     }
 
     pub(crate) fn constant(&mut self, v: u8) -> Result<Edge, Refusal>

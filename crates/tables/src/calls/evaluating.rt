@@ -6,12 +6,13 @@ ghost use Rattle.diagrams.specs.Diagram.{value as valued, visits, Over};
 ghost use Rattle.tables.specs.Edges.{arrow};
 ghost use Rattle.tables.specs.Cards.{shape_of};
 ghost use Rattle.tables.specs.Did.{meaning_of, nodes_of, table_of};
-ghost use Rattle.tables.specs.Evaluates.{assigned, Evaluates};
+ghost use Rattle.tables.specs.Evaluates.{assigned, Allows, Evaluates};
 
-use crate::calls::holding::Diagrams;
 use crate::calls::reading::Reading;
 use crate::engine::labels::{carry, product};
 use crate::parts::edge::Edge;
+use crate::parts::holding::Diagrams;
+use crate::parts::target::Target;
 use mvl::refusal::Refusal;
 
 impl Diagrams {
@@ -26,16 +27,33 @@ impl Diagrams {
         let mut label = e.label();
         let mut target = e.target();
         let mut visited = 0u8;
-        while target >= 4 {
-            let node = self.store.read((target - 4) as usize);
-            let value = assignment[node.variable as usize];
-            let edge = node.edges[value as usize];
-            label = product(&self.chart, label, edge.label());
-            target = edge.target();
-            visited += 1;
+        loop {
+            match target {
+                Target::Terminal(v) => {
+                    let value = carry(&self.chart, label, v);
+                    return Reading { value, visited };
+                }
+                Target::Node(r) => {
+                    let key = self.store.read(r).key;
+                    let value = assignment[key.variable as usize];
+                    let edge = key.edges[value as usize];
+                    label = product(&self.chart, label, edge.label());
+                    target = edge.target();
+                    visited += 1;
+                }
+            }
         }
-        let value = carry(&self.chart, label, target as u8);
-        Reading { value, visited }
+    }
+
+    // Whether each value is below the size of its variable.
+    fn allows(&self, assignment: &[u8]) -> bool
+        requires { length assignment.now ≡ self.now.card.n }
+        ensures { Allows self.now.card assignment.now result }
+    {
+        assignment
+            .iter()
+            .zip(&self.card.sizes)
+            .all(|(value, size)| value < size)
     }
 
     pub(crate) fn evaluate(&self, e: Edge, assignment: &[u8]) -> Result<Reading, Refusal>
@@ -47,10 +65,8 @@ impl Diagrams {
         if assignment.len() != self.card.n {
             return Err(Refusal::WrongLength);
         }
-        for x in 0..self.card.n {
-            if assignment[x] >= self.card.sizes[x] {
-                return Err(Refusal::NoValue);
-            }
+        if !self.allows(assignment) {
+            return Err(Refusal::NoValue);
         }
         Ok(self.follow(e, assignment))
     }

@@ -1,49 +1,33 @@
 //! An operation applied to two edges, and an edge restricted.
 
 ghost use Rattle.diagrams.specs.Calls.{asks, apply as applying, restrict as restricting};
-ghost use Rattle.diagrams.specs.Walk.{Fair, TaskOf};
-ghost use Rattle.tables.specs.Cards.{shape_of};
 ghost use Rattle.tables.specs.Edges.{arrow};
-ghost use Rattle.tables.specs.Did.{meaning_of, nodes_of, answer_of, Did};
-ghost use Rattle.tables.specs.Walks.{walk_of, task_of};
-ghost use Rattle.tables.specs.Walked.{Walked, Fits};
+ghost use Rattle.tables.specs.Did.{answer_of, Did};
+ghost use Rattle.tables.specs.Walks.{WalkIn, TaskIn, Walked};
 
-use crate::calls::holding::Diagrams;
 use crate::engine::answering::answers_of;
-use crate::engine::running::walk_in;
-use crate::engine::task::{Task, Walk};
+use crate::engine::applying::Applying;
+use crate::engine::restricting::Restricting;
+use crate::engine::settling::Walk;
+use crate::engine::task::Task;
 use crate::parts::edge::Edge;
+use crate::parts::holding::Diagrams;
 use mvl::refusal::Refusal;
 use operations::operation::Operation;
 
 impl Diagrams {
     // The edge of a task. Where there is no room for it, what was added is taken back.
-    fn walk(&mut self, walk: Walk, task: Task) -> Result<Edge, Refusal>
-        requires fair { Fair (meaning_of self.old) (shape_of self.old.card) (walk_of walk) }
-        requires of { TaskOf (meaning_of self.old) (nodes_of self.old) (task_of task) }
-        ensures { Walked self.old (walk_of walk) task result self.new }
+    fn walk<W: Walk>(&mut self, walk: &W, task: Task) -> Result<Edge, Refusal>
+        requires fair { WalkIn self.old (W.way walk.now) }
+        requires of { TaskIn self.old task }
+        ensures { Walked self.old (W.way walk.now) task result self.new }
     {
         let before = self.store.len();
-        match walk_in(&mut self.store, &self.chart, &self.card, walk, task) {
-            Ok(r) => Ok(r),
-            Err(why) => {
-                self.store.cut(before);
-                Err(why)
-            }
+        let walked = self.try_walk(walk, task);
+        if walked.is_err() {
+            self.store.cut(before);
         }
-    }
-
-    // Refuses an edge that is none of the table, and then another radix.
-    fn fit(&self, radix: u8, e: Edge, f: Edge) -> Result<(), Refusal>
-        ensures { Fits self.now radix e f result }
-    {
-        if !self.has(e) || !self.has(f) {
-            return Err(Refusal::NoEdge);
-        }
-        if radix != self.chart.radix {
-            return Err(Refusal::WrongRadix);
-        }
-        Ok(())
+        walked
     }
 
     pub(crate) fn apply<O: Operation>(
@@ -54,11 +38,9 @@ impl Diagrams {
     ) -> Result<Edge, Refusal>
         ensures { Did self.old (asks (applying (O.meaning operation.now).radix (O.meaning operation.now).answer (arrow e) (arrow f))) (answer_of result) self.new }
     {
-        if let Err(why) = self.fit(operation.radix(), e, f) {
-            return Err(why);
-        }
+        self.fit(operation.radix(), e, f)?;
         let answers = answers_of(operation);
-        self.walk(Walk::Apply(answers), Task { left: e, right: f })
+        self.walk(&Applying { answers }, Task { left: e, right: f })
     }
 
     pub(crate) fn restrict(&mut self, e: Edge, x: u8, v: u8) -> Result<Edge, Refusal>
@@ -67,12 +49,11 @@ impl Diagrams {
         if !self.has(e) {
             return Err(Refusal::NoEdge);
         }
-        if x as usize >= self.card.n {
-            return Err(Refusal::NoVariable);
-        }
-        if v >= self.card.sizes[x as usize] {
-            return Err(Refusal::NoValue);
-        }
-        self.walk(Walk::Restrict(x, v), Task { left: e, right: e })
+        self.size_above(x, v)?;
+        let walk = Restricting {
+            variable: x,
+            value: v,
+        };
+        self.walk(&walk, Task { left: e, right: e })
     }
 }

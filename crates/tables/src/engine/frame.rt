@@ -6,7 +6,8 @@ ghost use Rattle.tables.specs.Walks.{Begins, Extended};
 use crate::engine::task::Task;
 use crate::parts::edge::Edge;
 
-/// A task, the variable of its node, how many of the node's edges are made, and these.
+/// A task, the variable of its node, how many of the node's edges are made, and these: an array with a count, and no `Vec`, since a rule of the
+/// project wants walks in fixed memory.
 #[derive(Clone, Copy)]
 pub(crate) struct Frame {
     pub(crate) task: Task,
@@ -29,17 +30,12 @@ impl Frame {
     }
 
     /// One edge more.
-    pub(crate) fn with(self, edge: Edge) -> Frame
+    pub(crate) fn with(mut self, edge: Edge) -> Frame
         requires { self.done < 4 }
         ensures { Extended self edge result }
     {
-        let mut edges = self.edges;
-        edges[self.done as usize] = edge;
-        Frame {
-            task: self.task,
-            variable: self.variable,
-            done: self.done + 1,
-            edges,
-        }
+        self.edges[self.done as usize] = edge;
+        self.done += 1;
+        self
     }
 }

@@ -1,4 +1,6 @@
 //! The answers of a chart, read from its rows.
+//!
+//! Free functions: `Chart` is another crate's type, and has methods of these names that test what they are handed.
 
 ghost use Rattle.std.specs.Prelude.{◌≡◌, ◌<◌};
 ghost use Rattle.mvl.specs.Labels.{product as times, inverse as back, home as base, home_label as lifted};
@@ -9,7 +11,8 @@ use mvl::chart::Chart;
 pub(crate) fn carry(chart: &Chart, k: u8, v: u8) -> u8
     requires label { k < chart.now.labels }
     requires value { v < chart.now.radix }
-    ensures { result ≡ (chart_meaning chart.now).carry k v }
+    ensures value { result ≡ (chart_meaning chart.now).carry k v }
+    ensures bound { result < chart.now.radix }
 {
     chart.carries[(4 * k + v) as usize]
 }

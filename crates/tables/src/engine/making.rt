@@ -1,66 +1,43 @@
-//! A node is looked up in its chain, and made: normalised, looked up, added where it is missing.
+//! A node is made: normalised, looked up, added where it is missing.
 
-ghost use Rattle.std.specs.Prelude.{◌<◌};
-ghost use Rattle.mvl.specs.Charts.{chart_meaning};
-ghost use Rattle.tables.specs.Cards.{shape_of, capacity_of};
-ghost use Rattle.tables.specs.Stores.{items, heads};
-ghost use Rattle.tables.specs.Chains.{Chained};
-ghost use Rattle.tables.specs.Sounds.{Whole};
-ghost use Rattle.tables.specs.Finds.{Finds};
-ghost use Rattle.tables.specs.Makes.{AsksNode, MakesNode};
+ghost use Rattle.diagrams.specs.Make.{Asks};
+ghost use Rattle.tables.specs.Edges.{arrows};
+ghost use Rattle.tables.specs.Cards.{shape_of};
+ghost use Rattle.tables.specs.Did.{meaning_of, nodes_of};
+ghost use Rattle.tables.specs.Makes.{MakesNode};
 
 use crate::engine::labels::inverse;
 use crate::engine::rows::{alike, turned};
-use crate::parts::card::Card;
 use crate::parts::edge::Edge;
-use crate::parts::node::{hash, same};
-use crate::parts::store::Store;
-use mvl::chart::Chart;
+use crate::parts::holding::Diagrams;
+use crate::parts::key::Key;
+use crate::parts::target::Target;
 use mvl::refusal::Refusal;
 
-/// The number of the node of this variable with these edges.
-pub(crate) fn find_in(store: &Store, variable: u8, edges: [Edge; 4]) -> Option<usize>
-    requires { Chained (items store.now) (heads store.now) }
-    ensures { Finds (items store.now) variable edges result }
-{
-    let mut link = store.heads[hash(variable, edges)].to;
-    while link > 0 {
-        let r = (link - 1) as usize;
-        let node = store.read(r);
-        if same(node, variable, edges) {
-            return Some(r);
+impl Diagrams {
+    /// The edge to what reads `edges` at the values of `x`.
+    pub(crate) fn make(&mut self, x: u8, edges: [Edge; 4]) -> Result<Edge, Refusal>
+        requires { Asks (meaning_of self.old) (shape_of self.old.card) (nodes_of self.old) x (arrows edges) }
+        ensures { MakesNode self.old x edges result self.new }
+    {
+        let size = self.card.sizes[x as usize];
+        if alike(edges, size) {
+            return Ok(edges[0]);
         }
-        link = node.next.to;
+        let label = edges[0].label();
+        let normal = turned(&self.chart, inverse(&self.chart, label), edges, size);
+        let key = Key {
+            variable: x,
+            edges: normal,
+        };
+        if let Some(r) = self.store.find(key) {
+            return Ok(Edge::to(label, Target::Node(r)));
+        }
+        let r = self.store.len();
+        if r >= self.card.capacity {
+            return Err(Refusal::NoRoom);
+        }
+        self.store.push(key);
+        Ok(Edge::to(label, Target::Node(r)))
     }
-    None
-}
-
-/// The edge to what reads `edges` at the values of `x`.
-pub(crate) fn make_in(
-    store: &mut Store,
-    chart: &Chart,
-    card: &Card,
-    x: u8,
-    edges: [Edge; 4],
-) -> Result<Edge, Refusal>
-    requires whole { Whole chart.now card.now store.old }
-    requires asks { AsksNode (chart_meaning chart.now) (shape_of card.now) (items store.old) x edges }
-    ensures whole { Whole chart.now card.now store.new }
-    ensures makes { MakesNode (chart_meaning chart.now) (shape_of card.now) (items store.old) x edges (capacity_of card.now) result (items store.new) }
-{
-    let size = card.sizes[x as usize];
-    if alike(edges, size) {
-        return Ok(edges[0]);
-    }
-    let label = edges[0].label();
-    let normal = turned(chart, inverse(chart, label), edges, size);
-    if let Some(r) = find_in(store, x, normal) {
-        return Ok(Edge::to(label, (r + 4) as u16));
-    }
-    let r = store.len();
-    if r >= card.capacity {
-        return Err(Refusal::NoRoom);
-    }
-    store.push(hash(x, normal), x, normal);
-    Ok(Edge::to(label, (r + 4) as u16))
 }

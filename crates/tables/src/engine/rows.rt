@@ -5,10 +5,11 @@ ghost use Rattle.mvl.specs.Charts.{chart_meaning};
 ghost use Rattle.diagrams.specs.Diagram.{turned as turning};
 ghost use Rattle.diagrams.specs.Build.{constant_edge};
 ghost use Rattle.tables.specs.Edges.{arrow, arrows};
-ghost use Rattle.tables.specs.Finds.{Alikes, Filled};
+ghost use Rattle.tables.specs.Finds.{Alikes, Filled, FilledBy};
 
 use crate::engine::labels::{home, home_label, product};
 use crate::parts::edge::Edge;
+use crate::parts::target::Target;
 use mvl::chart::Chart;
 
 /// Whether the first edges, as many as a variable's size, are one.
@@ -16,12 +17,20 @@ pub(crate) fn alike(edges: [Edge; 4], size: u8) -> bool
     requires { size ≤ 4 }
     ensures { Alikes edges size result }
 {
-    for i in 1..size {
-        if edges[i as usize].word != edges[0].word {
-            return false;
-        }
+    edges[..size as usize].iter().all(|e| *e == edges[0])
+}
+
+// What `edge` gives each value below a size, and the others unused.
+fn filled<F: Fn(u8) -> Edge>(size: u8, edge: F) -> [Edge; 4]
+    requires few { size ≤ 4 }
+    requires known { (i : ℕ) → i < size → F.pre edge i }
+    ensures { FilledBy (F.post edge) size result }
+{
+    let mut row = [Edge { word: 0 }; 4];
+    for i in 0..size {
+        row[i as usize] = edge(i);
     }
-    true
+    row
 }
 
 /// The first edges with a label more, and the others unused.
@@ -31,12 +40,10 @@ pub(crate) fn turned(chart: &Chart, k: u8, edges: [Edge; 4], size: u8) -> [Edge;
     requires labels { (i : ℕ) → i < size → (arrows edges i).label < chart.now.labels }
     ensures { Filled (λ i. turning (chart_meaning chart.now) k (arrows edges i)) size result }
 {
-    let mut out = [Edge { word: 0 }; 4];
-    for i in 0..size {
+    filled(size, |i| {
         let e = edges[i as usize];
-        out[i as usize] = Edge::to(product(chart, k, e.label()), e.target());
-    }
-    out
+        Edge::to(product(chart, k, e.label()), e.target())
+    })
 }
 
 /// The edge of a value.
@@ -44,7 +51,7 @@ pub(crate) fn constant_edge(chart: &Chart, v: u8) -> Edge
     requires { v < chart.now.radix }
     ensures { arrow result ≡ constant_edge (chart_meaning chart.now) v }
 {
-    Edge::to(home_label(chart, v), home(chart, v) as u16)
+    Edge::to(home_label(chart, v), Target::Terminal(home(chart, v)))
 }
 
 /// The edge of each value below a size, and the others unused.
@@ -52,11 +59,7 @@ pub(crate) fn constants(chart: &Chart, size: u8) -> [Edge; 4]
     requires { size ≤ chart.now.radix }
     ensures { Filled (constant_edge (chart_meaning chart.now)) size result }
 {
-    let mut out = [Edge { word: 0 }; 4];
-    for v in 0..size {
-        out[v as usize] = constant_edge(chart, v);
-    }
-    out
+    filled(size, |v| constant_edge(chart, v))
 }
 
 // What the literal of `v` gives at `i`.
@@ -72,9 +75,5 @@ pub(crate) fn chosen(chart: &Chart, v: u8, size: u8) -> [Edge; 4]
     requires { size ≤ 4 }
     ensures { Filled (λ i. constant_edge (chart_meaning chart.now) (if nat_eq i v then chart.now.radix - 1 else 0)) size result }
 {
-    let mut out = [Edge { word: 0 }; 4];
-    for i in 0..size {
-        out[i as usize] = constant_edge(chart, chosen_value(chart, v, i));
-    }
-    out
+    filled(size, |i| constant_edge(chart, chosen_value(chart, v, i)))
 }

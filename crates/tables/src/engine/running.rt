@@ -1,88 +1,56 @@
 //! A walk, with a stack.
 
-ghost use Rattle.std.specs.Prelude.{◌≡◌};
-ghost use Rattle.mvl.specs.Charts.{chart_meaning};
-ghost use Rattle.diagrams.specs.Walk.{Fair, TaskOf, Needs};
-ghost use Rattle.tables.specs.Cards.{shape_of};
-ghost use Rattle.tables.specs.Records.{nodes_in};
-ghost use Rattle.tables.specs.Stores.{items};
-ghost use Rattle.tables.specs.Sounds.{Whole};
-ghost use Rattle.tables.specs.Walks.{walk_of, task_of, Walks};
+ghost use Rattle.tables.specs.Walks.{WalkIn, TaskIn, SplitsAt, Walks};
 
-use crate::engine::following::child;
 use crate::engine::frame::Frame;
-use crate::engine::making::make_in;
-use crate::engine::settling::settle;
-use crate::engine::task::{Next, Task, Walk};
-use crate::parts::card::Card;
+use crate::engine::settling::Walk;
+use crate::engine::task::{Next, Task};
 use crate::parts::edge::Edge;
-use crate::parts::store::Store;
-use mvl::chart::Chart;
+use crate::parts::holding::Diagrams;
 use mvl::refusal::Refusal;
 
-// The frame at the top makes its next edge, or the node of all its edges, which is then the next edge of the frame below. A frame above
-// another is of a variable below the other's, so that twelve are enough.
-fn run(
-    store: &mut Store,
-    chart: &Chart,
-    card: &Card,
-    walk: Walk,
-    first: Frame,
-) -> Result<Edge, Refusal>
-    requires whole { Whole chart.now card.now store.old }
-    requires fair { Fair (chart_meaning chart.now) (shape_of card.now) (walk_of walk) }
-    requires needs { Needs (chart_meaning chart.now) (shape_of card.now) (nodes_in (items store.old)) (walk_of walk) (task_of first.task) first.variable }
-    requires none { first.done ≡ 0 }
-    ensures { Walks chart.now card.now store.old (walk_of walk) first.task result store.new }
-{
-    let mut frames = [first; 12];
-    let mut k = 0usize;
-    loop {
-        let top = frames[k];
-        if top.done < card.sizes[top.variable as usize] {
-            let next = child(store, chart, top.task, top.variable, top.done);
-            match settle(store, chart, card, walk, next) {
-                Next::Settled(r) => {
-                    frames[k] = top.with(r);
-                }
-                Next::Split(y) => {
-                    k += 1;
-                    frames[k] = Frame::of(next, y);
-                }
-            }
-        } else {
-            match make_in(store, chart, card, top.variable, top.edges) {
-                Ok(r) => {
-                    if k == 0 {
-                        return Ok(r);
+impl Diagrams {
+    // The frame at the top makes its next edge, or the node of all its edges, which is then the next edge of the frame below. A frame above
+    // another is of a variable below the other's, so that twelve are enough.
+    // A loop over a plain stack, and neither recursion nor a `Vec`: a rule of the project wants walks in fixed memory.
+    fn run<W: Walk>(&mut self, walk: &W, task: Task, variable: u8) -> Result<Edge, Refusal>
+        requires fair { WalkIn self.old (W.way walk.now) }
+        requires splits { SplitsAt self.old (W.way walk.now) task variable }
+        ensures { Walks self.old (W.way walk.now) task result self.new }
+    {
+        let mut frames = [Frame::of(task, variable); 12];
+        let mut k = 0usize;
+        loop {
+            let top = frames[k];
+            if top.done < self.card.sizes[top.variable as usize] {
+                let next = self.child(top.task, top.variable, top.done);
+                match walk.settle(self, next) {
+                    Next::Settled(r) => frames[k] = top.with(r),
+                    Next::Split(y) => {
+                        k += 1;
+                        frames[k] = Frame::of(next, y);
                     }
-                    k -= 1;
-                    let below = frames[k];
-                    frames[k] = below.with(r);
                 }
-                Err(why) => {
-                    return Err(why);
+            } else {
+                let made = self.make(top.variable, top.edges)?;
+                if k == 0 {
+                    return Ok(made);
                 }
+                k -= 1;
+                frames[k] = frames[k].with(made);
             }
         }
     }
-}
 
-/// The edge of a task. Where there is no room for it, nodes may have been added all the same.
-pub(crate) fn walk_in(
-    store: &mut Store,
-    chart: &Chart,
-    card: &Card,
-    walk: Walk,
-    task: Task,
-) -> Result<Edge, Refusal>
-    requires whole { Whole chart.now card.now store.old }
-    requires fair { Fair (chart_meaning chart.now) (shape_of card.now) (walk_of walk) }
-    requires of { TaskOf (chart_meaning chart.now) (nodes_in (items store.old)) (task_of task) }
-    ensures { Walks chart.now card.now store.old (walk_of walk) task result store.new }
-{
-    match settle(store, chart, card, walk, task) {
-        Next::Settled(r) => Ok(r),
-        Next::Split(y) => run(store, chart, card, walk, Frame::of(task, y)),
+    /// The edge of a task. Where there is no room for it, nodes may have been added all the same.
+    pub(crate) fn try_walk<W: Walk>(&mut self, walk: &W, task: Task) -> Result<Edge, Refusal>
+        requires fair { WalkIn self.old (W.way walk.now) }
+        requires of { TaskIn self.old task }
+        ensures { Walks self.old (W.way walk.now) task result self.new }
+    {
+        match walk.settle(self, task) {
+            Next::Settled(r) => Ok(r),
+            Next::Split(y) => self.run(walk, task, y),
+        }
     }
 }

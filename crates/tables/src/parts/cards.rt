@@ -29,14 +29,11 @@ impl Card {
         if n < 1 || n > 12 || capacity > 2000 {
             return Err(Refusal::BadCard);
         }
-        let mut own = [0u8; 12];
-        for i in 0..n {
-            let size = sizes[i];
-            if size < 2 || size > 4 {
-                return Err(Refusal::BadCard);
-            }
-            own[i] = size;
+        if !sizes.iter().all(|size| (2..=4).contains(size)) {
+            return Err(Refusal::BadCard);
         }
+        let mut own = [0u8; 12];
+        own[..n].copy_from_slice(sizes);
         *self = Card {
             order: [0, 1, 2, 3, 4, 5, 6, 7, 8, 9, 10, 11],
             place: [0, 1, 2, 3, 4, 5, 6, 7, 8, 9, 10, 11],

@@ -1,8 +1,10 @@
 //! An edge, as one number.
 
-ghost use Rattle.std.specs.Prelude.{◌≡◌, ◌+◌, ◌*◌, ◌/◌, ◌%◌, ◌<◌};
-ghost use Rattle.tables.specs.Edges.{goal, arrow};
+ghost use Rattle.std.specs.Prelude.{◌≡◌, ◌/◌, ◌<◌};
+ghost use Rattle.tables.specs.Edges.{arrow, target_of, Numbered};
 ghost use Rattle.diagrams.specs.Diagram.{edge_to};
+
+use crate::parts::target::Target;
 
 /// 16,384 times the label, and the target: 0 to 3 are the terminals, 4 + r is node r. Any number makes an edge: whether it is one of a
 /// table, each call tests.
@@ -26,13 +28,14 @@ impl Edge {
         self.word
     }
 
-    pub(crate) fn to(label: u8, target: u16) -> Edge
+    /// The edge of a label to a target.
+    pub(crate) fn to(label: u8, target: Target) -> Edge
         requires label { label < 4 }
-        requires target { target < 16384 }
-        ensures { arrow result ≡ edge_to label (goal target) }
+        requires target { Numbered target }
+        ensures { arrow result ≡ edge_to label (target_of target) }
     {
         Edge {
-            word: label as u16 * 16384 + target,
+            word: label as u16 * 16384 + target.number(),
         }
     }
 
@@ -43,10 +46,10 @@ impl Edge {
         (self.number() / 16384) as u8
     }
 
-    pub(crate) fn target(self) -> u16
-        ensures value { result ≡ self.word % 16384 }
-        ensures bound { result < 16384 }
+    pub(crate) fn target(self) -> Target
+        ensures value { target_of result ≡ (arrow self).target }
+        ensures bound { Numbered result }
     {
-        self.number() % 16384
+        Target::of(self.number() % 16384)
     }
 }

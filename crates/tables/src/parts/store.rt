@@ -1,8 +1,11 @@
 //! The store of a table.
 
-ghost use Rattle.std.specs.Prelude.{◌≡◌, ◌≤◌, length, vec_len, vec_capacity};
+ghost use Rattle.std.specs.Prelude.{◌≡◌, ◌≤◌, length, vec_len, vec_capacity, vec_items};
+ghost use Rattle.tables.specs.Chains.{Chained};
+ghost use Rattle.tables.specs.Unique.{Chained-prop};
 
-use crate::parts::node::{Link, Node};
+use crate::parts::link::Link;
+use crate::parts::node::Node;
 
 /// The records of the nodes, in memory that is reserved when the table is opened, and the heads of the chains by which they are found.
 #[derive(Drop)]
@@ -13,4 +16,5 @@ pub(crate) struct Store {
     ghost within: { vec_len nodes ≤ limit },
     ghost wide: { length heads ≡ 1024 },
     ghost room: { limit ≤ vec_capacity nodes },
+    ghost chained: { Chained (vec_items nodes) heads } by { Chained-prop (vec_items nodes) heads },
 }

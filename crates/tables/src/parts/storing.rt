@@ -1,12 +1,12 @@
 //! A store is opened, read, added to and cut.
 
-ghost use Rattle.std.specs.Prelude.{◌≡◌, ◌+◌, ◌-◌, ◌<◌, ◌≤◌, [], ◌∷◌, ◌++◌, length, take, IfOk, slice_index_or, slice_set};
-ghost use Rattle.tables.specs.Records.{at, none};
-ghost use Rattle.tables.specs.Stores.{items, heads, Opened};
-ghost use Rattle.tables.specs.Chains.{Chained};
+ghost use Rattle.std.specs.Prelude.{◌≡◌, ◌-◌, ◌<◌, ◌≤◌, [], ◌∷◌, ◌++◌, length, take, IfOk, slice_index_or};
+ghost use Rattle.tables.specs.Records.{at, none, hash_of};
+ghost use Rattle.tables.specs.Stores.{items, Opened};
 
-use crate::parts::edge::Edge;
-use crate::parts::node::{Link, Node, hash};
+use crate::parts::key::Key;
+use crate::parts::link::Link;
+use crate::parts::node::Node;
 use crate::parts::store::Store;
 use std::alloc::{AllocError, Global};
 
@@ -15,7 +15,7 @@ impl Store {
         ensures { IfOk result (λ s. Opened limit s) }
     {
         let nodes = Vec::with_capacity(heap, limit)?;
-        let heads = [Link { to: 0 }; 1024];
+        let heads = [Link::NONE; 1024];
         Ok(Store {
             nodes,
             heads,
@@ -36,48 +36,39 @@ impl Store {
         self.nodes[i]
     }
 
-    /// One record more, at the head of chain h.
-    pub(crate) fn push(&mut self, h: usize, variable: u8, edges: [Edge; 4])
+    /// One record more, at the head of its chain.
+    pub(crate) fn push(&mut self, key: Key)
         requires room { length (items self.old) < self.old.limit }
         requires small { self.old.limit ≤ 2000 }
-        requires chain { h < 1024 }
         ensures limit { self.new.limit ≡ self.old.limit }
-        ensures items { items self.new ≡ items self.old ++ record { variable = variable; edges = edges; next = slice_index_or self.old.heads h none } ∷ [] }
-        ensures heads { self.new.heads ≡ slice_set self.old.heads h (record { to = length (items self.old) + 1 }) }
+        ensures items { items self.new ≡ items self.old ++ record { key = key; next = slice_index_or self.old.heads (hash_of key) none } ∷ [] }
     {
+        let h = key.hash();
         let next = self.heads[h];
-        let to = (self.nodes.len() + 1) as u16;
-        self.nodes.push_reserved(Node {
-            variable,
-            edges,
-            next,
-        });
-        self.heads[h] = Link { to };
+        self.heads[h] = Link::new(self.nodes.len());
+        self.nodes.push_reserved(Node { key, next });
     }
 
     /// The last record, taken back.
     fn pop(&mut self)
-        requires some { 0 < length (items self.old) }
-        requires chained { Chained (items self.old) (heads self.old) }
+        requires { 0 < length (items self.old) }
         ensures limit { self.new.limit ≡ self.old.limit }
         ensures items { items self.new ≡ take (length (items self.old) - 1) (items self.old) }
-        ensures chained { Chained (items self.new) (heads self.new) }
     {
         let r = self.nodes.len() - 1;
         let node = self.read(r);
-        let h = hash(node.variable, node.edges);
+        let h = node.key.hash();
         self.heads[h] = node.next;
         self.nodes.truncate(r);
     }
 
     /// The records from the end, taken back to a length.
     pub(crate) fn cut(&mut self, len: usize)
-        requires within { len ≤ length (items self.old) }
-        requires chained { Chained (items self.old) (heads self.old) }
+        requires { len ≤ length (items self.old) }
         ensures limit { self.new.limit ≡ self.old.limit }
         ensures items { items self.new ≡ take len (items self.old) }
-        ensures chained { Chained (items self.new) (heads self.new) }
     {
+        // A range would count numbers that are not used.
         while self.len() > len {
             self.pop();
         }

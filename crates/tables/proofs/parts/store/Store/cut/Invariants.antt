@@ -1,6 +1,5 @@
 use Rattle.std.proofs.Common.{◌≡◌, ◌≤◌, length, take}
-use Rattle.tables.specs.Stores.{items, heads}
-use Rattle.tables.specs.Chains.{Chained}
+use Rattle.tables.specs.Stores.{items}
 use Rattle.tables.proofs.parts.store.Store.cut.Given as goal
 
 abbrev pub invariant-loop-self : goal.invariant-loop-self
@@ -8,7 +7,6 @@ invariant-loop-self l =
     (items l.self ≡ take (length (items l.self)) (items l.initial.self))
     × (l.len ≤ length (items l.self))
     × (l.self.limit ≡ l.initial.self.limit)
-    × Chained (items l.self) (heads l.self)
 
 abbrev pub decreases-loop-self : goal.decreases-loop-self
 decreases-loop-self l = length (items l.self)

@@ -1,9 +1,0 @@
-use Rattle.tables.specs.Stores.{items}
-use Rattle.tables.proofs.Looking.{Left}
-use Rattle.tables.proofs.engine.making.find_in.Given as goal
-
-abbrev pub invariant-loop-link : goal.invariant-loop-link
-invariant-loop-link l = Left (items l.store) l.variable l.edges l.link
-
-abbrev pub decreases-loop-link : goal.decreases-loop-link
-decreases-loop-link l = l.link
