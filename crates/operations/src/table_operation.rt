@@ -5,6 +5,7 @@ ghost use Rattle.std.specs.Prelude.{◌≡◌, ℕ, ◌<◌, length, slice_index
 use mvl::radix::Radix;
 
 /// The answer for the pair (a, b) stands at byte radix × a + b; all are 0 until they are filled.
+// An array beside the radix: an operation is held by value, and asks for no memory.
 #[derive(Clone, Copy)]
 pub struct TableOperation {
     pub(crate) radix: Radix,

@@ -14,6 +14,7 @@ use mvl::refusal::Refusal;
 pub struct Turned<O, L> {
     below: O,
     labelling: L,
+    // Three fields, as `set` and its contract take them: a struct of three would be taken apart at once.
     // Numbers, of which no ghost field says that they are labels: it would name what O and L mean, and specs above name this type without.
     left: u8,
     right: u8,

@@ -1,4 +1,6 @@
 //! Entries and failures in print.
+//!
+//! By hand: what is printed depends on more than one field, or on whether there is a word, which no derive has a text for.
 
 use crate::command::Command;
 use crate::entry::{Entry, Expected, Failure, Fault, Unread};

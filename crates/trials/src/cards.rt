@@ -56,6 +56,7 @@ impl<L: Labelling + Copy + Drop> Round<L> {
 
     // A number of sizes, a size or a capacity that is out of range.
     fn fill_badly(&mut self, card: &mut Card, filling: &Filling) -> Result<(), Fault> {
+        // An array, of which as many are handed in as the trial wants: a `Vec` could want memory.
         let mut sizes = [3u8; 13];
         let mut n = filling.shape.n;
         let mut capacity = self.random.below(2001);

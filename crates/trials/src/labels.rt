@@ -2,6 +2,7 @@
 
 use std::fmt;
 
+// An enum and matches, not the library's trait: the model has to know nothing of what it tests.
 #[derive(Clone, Copy)]
 pub(crate) enum Kind {
     Plain,

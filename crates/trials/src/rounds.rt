@@ -60,6 +60,7 @@ impl<L: Labelling + Copy + Drop> Round<L> {
         }
         let table = Table::open(self.heap, card, self.labelling)?;
         let model = Model::new(self.heap, filling.shape, self.labels, filling.capacity);
+        // Copied in and out: through the round, each of the trial's uses of them would be longer.
         let mut trial = Trial {
             heap: self.heap,
             labelling: self.labelling,

@@ -27,6 +27,7 @@ impl Diagrams {
         let mut label = e.label();
         let mut target = e.target();
         let mut visited = 0u8;
+        // A loop that counts: a path has no length beforehand, and how many nodes it has is part of the answer.
         loop {
             match target {
                 Target::Terminal(v) => {

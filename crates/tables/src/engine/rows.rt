@@ -27,6 +27,7 @@ fn filled<F: Fn(u8) -> Edge>(size: u8, edge: F) -> [Edge; 4]
     ensures { FilledBy (F.post edge) size result }
 {
     let mut row = [Edge { word: 0 }; 4];
+    // A loop: the size is known only when it runs, and `array::from_fn` would ask `edge` beyond it.
     for i in 0..size {
         row[i as usize] = edge(i);
     }

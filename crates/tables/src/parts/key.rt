@@ -6,6 +6,7 @@ ghost use Rattle.tables.specs.Records.{hash_of};
 use crate::parts::edge::Edge;
 
 /// A variable, and an edge for each value of it. The edges beyond are edge 0, so that equal nodes have equal keys.
+// An array, though a variable may have fewer values: records are of one length, in memory that is reserved when the table is opened.
 #[derive(Clone, Copy, PartialEq, Eq)]
 pub(crate) struct Key {
     pub(crate) variable: u8,

@@ -8,6 +8,7 @@ use crate::parts::link::Link;
 use crate::parts::node::Node;
 
 /// The records of the nodes, in memory that is reserved when the table is opened, and the heads of the chains by which they are found.
+// Records named by number, and no boxes: a rule of the project wants them in a plain store, and an edge's number has that of its node.
 #[derive(Drop)]
 pub(crate) struct Store {
     pub(crate) nodes: Vec<Node>,
