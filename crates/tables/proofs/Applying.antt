@@ -31,7 +31,7 @@ use Rattle.tables.proofs.Looping.{start}
 
 -- a query that want of room alone can refuse
 module _ (D : Diagrams) (q : Query) (past : refusal (meaning_of D) (table_of D) (asks q) ≡ room_for (meaning_of D) (table_of D) (asks q)) where
-  pub did_walked : (w : Way) (t : Task) {D' : Diagrams} → Fair (meaning_of D) (shape_of D.card) w → TaskOf (meaning_of D) (nodes_of D) (task_of t)
+  did_walked : (w : Way) (t : Task) {D' : Diagrams} → Fair (meaning_of D) (shape_of D.card) w → TaskOf (meaning_of D) (nodes_of D) (task_of t)
       → Agree (shape_of D.card) (walked D w t) (asked (meaning_of D) (table_of D) q) → (r : Result Edge Refusal) → Walked D w t r D' → Did D (asks q) (answer_of r) D'
   did_walked w t {D'} fair of agree (Ok r) g =
       let gains = gains_agree agree g.gains in
@@ -67,7 +67,7 @@ module _ (D : Diagrams) (e : Edge) (x v : ℕ) where
         did_refuse D (asks fixing) k
         (past_edge ∙ stops_at_two (ltb x D.card.n) (ltb v (get_or D.card.sizes x 0)) NoVariable NoValue k (room_for (meaning_of D) (table_of D) (asks fixing)) refused)
 
-    pub restrict_of : TaskOf (meaning_of D) (nodes_of D) (record { left = arrow e; right = arrow e })
+    restrict_of : TaskOf (meaning_of D) (nodes_of D) (record { left = arrow e; right = arrow e })
     restrict_of = let of = edge_is (meaning_of D) (nodes_of D) (arrow e) (passed (sym yes)) in record { left = of; right = of }
 
     pub restrict_did : no_value D.card x v ≡ 0 → {D' : Diagrams} (r : Result Edge Refusal) → Walked D (restricts x v) (record { left = e; right = e }) r D'
@@ -102,14 +102,14 @@ module _ (D : Diagrams) (o : Binary) (e f : Edge) {p : ℕ} (same : p ≡ o.radi
     own_radix : o.radix ≡ D.chart.radix
     own_radix = sym same ∙ eqb→eq p D.chart.radix tests.1
 
-    pub apply_of : TaskOf (meaning_of D) (nodes_of D) (record { left = arrow e; right = arrow f })
+    apply_of : TaskOf (meaning_of D) (nodes_of D) (record { left = arrow e; right = arrow f })
     apply_of =
         let a = is_edge (meaning_of D) (nodes_of D) (arrow e) in
         let b = is_edge (meaning_of D) (nodes_of D) (arrow f) in
         record { left = edge_is (meaning_of D) (nodes_of D) (arrow e) (and_left a b tests.0); right = edge_is (meaning_of D) (nodes_of D) (arrow f) (and_right a b tests.0) }
 
     module _ (closed : Closed o) (answers : List ℕ) (tabulates : Tabulates o answers) where
-      pub apply_fair : Fair (meaning_of D) (shape_of D.card) (applies (told answers))
+      apply_fair : Fair (meaning_of D) (shape_of D.card) (applies (told answers))
       apply_fair a b ha hb =
           let radix = own_radix in
           omega (arith, tabulates a b (omega arith) (omega arith), closed.within a b (omega arith) (omega arith))

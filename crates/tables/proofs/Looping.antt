@@ -103,15 +103,12 @@ module _ {D₀ : Diagrams} {w : Way} {t₀ : Task} (D : Diagrams) {fs : List Fra
   so_far : Grown D₀ D
   so_far = record { chart = inv.same_chart; card = inv.same_card; grows = inv.grows }
 
-  pub top_within : (frame_at fs k).variable < D.card.n
-  top_within = (top_needs inv.start inv.working).within
-
   pub top_task : TaskOf (meaning_of D) (nodes_of D) (task_of (frame_at fs k).task)
   top_task = (top_needs inv.start inv.working).task_of
 
   -- the frame at the top lacks an edge
   module _ (less : (frame_at fs k).done < get_or D.card.sizes (frame_at fs k).variable 0) where
-    pub top_few : (frame_at fs k).done < 4
+    top_few : (frame_at fs k).done < 4
     top_few = done_few inv.start inv.working less
 
     module _ (t : Task) (is : task_of t ≡ child (meaning_of D) (nodes_of D) (frame_at fs k).variable (frame_at fs k).done (task_of (frame_at fs k).task)) where

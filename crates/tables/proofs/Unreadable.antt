@@ -1,5 +1,5 @@
 -- When an evaluation is refused. Assumes nothing.
-use Rattle.std.proofs.Common.{◌≡◌, ℕ, ◌<◌, ◌≤◌, Bool, true, false, eqb, ltb, List, length, sym, ◌∙◌, subst, arith, eqb→eq, ltb→lt, lt→ltb}
+use Rattle.std.proofs.Common.{◌≡◌, ℕ, ◌<◌, ◌≤◌, Bool, true, false, eqb, ltb, List, length, get_or, take, sym, ◌∙◌, subst, arith, length-take-le, get_or-take, eqb→eq, ltb→lt, lt→ltb}
 use Rattle.std.specs.Bool.{MatchBool}
 use Rattle.std.specs.List.{AllWithin, HoldsAt, zip}
 use Rattle.std.proofs.lemmas.Slice.Zip.{length-zip, get_or-zip}
@@ -52,11 +52,17 @@ module _ (m : Meaning) (t : Table) (e : Arrow) (xs : List ℕ) where
           (all_below_from t.shape.count (λ x. ltb (assigned xs x) (t.shape.size x)) (λ x h. lt→ltb (assigned xs x) (t.shape.size x) (assigns x h)))
 
 -- values tested against sizes, pair by pair
-pub tested_all : (c : Card) (xs : List ℕ) → length xs ≤ length c.sizes → (r : Bool)
-    → MatchBool r (AllWithin (λ (p : ℕ × ℕ). p.0 < p.1) (zip xs c.sizes) 0 (length (zip xs c.sizes))) ((k : ℕ) × (k < length (zip xs c.sizes)) × HoldsAt (λ (p : ℕ × ℕ). p.1 ≤ p.0) (zip xs c.sizes) k)
+pub tested_all : (c : Card) (xs : List ℕ) → length xs ≡ c.n → c.n ≤ length c.sizes → (r : Bool)
+    → MatchBool r (AllWithin (λ (p : ℕ × ℕ). p.0 < p.1) (zip xs (take c.n c.sizes)) 0 (length (zip xs (take c.n c.sizes)))) ((k : ℕ) × (k < length (zip xs (take c.n c.sizes))) × HoldsAt (λ (p : ℕ × ℕ). p.1 ≤ p.0) (zip xs (take c.n c.sizes)) k)
     → Allows c xs r
-tested_all c xs fit true all = λ k h.
-    subst (λ (p : ℕ × ℕ). p.0 < p.1) (get_or-zip xs c.sizes k (0, 0) h (omega arith)) (all k (0, 0) (omega arith) (omega (arith, length-zip xs c.sizes)))
-tested_all c xs fit false (k, h, large) =
-    let low : k < length xs = omega (arith, length-zip xs c.sizes) in
-    (k, low, subst (λ (p : ℕ × ℕ). p.1 ≤ p.0) (get_or-zip xs c.sizes k (0, 0) low (omega arith)) (large (0, 0)))
+tested_all c xs long fit true all = λ k h.
+    let low : k < c.n = omega arith in
+    let few = length-take-le c.n c.sizes fit in
+    let is = get_or-zip xs (take c.n c.sizes) k (0, 0) h (omega arith) in
+    subst (λ (v : ℕ). get_or xs k 0 < v) (get_or-take c.n c.sizes k 0 low)
+    (subst (λ (p : ℕ × ℕ). p.0 < p.1) is (all k (0, 0) (omega arith) (omega (arith, few, length-zip xs (take c.n c.sizes)))))
+tested_all c xs long fit false (k, h, large) =
+    let few = length-take-le c.n c.sizes fit in
+    let low : k < length xs = omega (arith, length-zip xs (take c.n c.sizes)) in
+    let is = get_or-zip xs (take c.n c.sizes) k (0, 0) low (omega arith) in
+    (k, low, subst (λ (v : ℕ). v ≤ get_or xs k 0) (get_or-take c.n c.sizes k 0 (omega arith)) (subst (λ (p : ℕ × ℕ). p.1 ≤ p.0) is (large (0, 0))))

@@ -29,13 +29,17 @@ impl Frame {
         }
     }
 
-    /// One edge more.
-    pub(crate) fn with(mut self, edge: Edge) -> Frame
+    /// One edge more. (Made anew: writes into `self` were tried, and a step took half as long again and more.)
+    pub(crate) fn with(self, edge: Edge) -> Frame
         requires { self.done < 4 }
         ensures { Extended self edge result }
     {
-        self.edges[self.done as usize] = edge;
-        self.done += 1;
-        self
+        let mut edges = self.edges;
+        edges[self.done as usize] = edge;
+        Frame {
+            done: self.done + 1,
+            edges,
+            ..self
+        }
     }
 }
