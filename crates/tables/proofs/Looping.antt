@@ -103,9 +103,6 @@ module _ {D₀ : Diagrams} {w : Way} {t₀ : Task} (D : Diagrams) {fs : List Fra
   so_far : Grown D₀ D
   so_far = record { chart = inv.same_chart; card = inv.same_card; grows = inv.grows }
 
-  pub top_within : (frame_at fs k).variable < D.card.n
-  top_within = (top_needs inv.start inv.working).within
-
   pub top_task : TaskOf (meaning_of D) (nodes_of D) (task_of (frame_at fs k).task)
   top_task = (top_needs inv.start inv.working).task_of
 

@@ -8,7 +8,7 @@ ghost use Rattle.tables.specs.Edges.{arrow};
 ghost use Rattle.tables.specs.Did.{meaning_of, nodes_of};
 ghost use Rattle.tables.specs.Walks.{task_of, TaskIn};
 
-use crate::engine::labels::product;
+use crate::engine::rows::turned_edge;
 use crate::engine::task::Task;
 use crate::parts::edge::Edge;
 use crate::parts::holding::Diagrams;
@@ -39,8 +39,7 @@ impl Diagrams {
         if key.variable != x {
             return e;
         }
-        let f = key.edges[i as usize];
-        Edge::to(product(&self.chart, e.label(), f.label()), f.target())
+        turned_edge(&self.chart, e.label(), key.edges[i as usize])
     }
 
     /// The task where variable `x` has value `i`.
