@@ -1,7 +1,6 @@
 -- Edges that walks follow, and tasks that are settled. Assumes nothing.
-use Rattle.std.proofs.Common.{◌≡◌, ℕ, ◌+◌, ◌-◌, ◌*◌, ◌/◌, ◌%◌, ◌<◌, ◌≤◌, List, get_or, sym, ap, ◌∙◌, subst, ap₂, ⊎_elim, arith}
-use Rattle.std.proofs.lemmas.Bool.{cases_lt}
-use Rattle.diagrams.specs.Diagram.{Target, node, level, Has, Of, Stands}
+use Rattle.std.proofs.Common.{◌≡◌, ℕ, ◌+◌, ◌*◌, ◌/◌, ◌<◌, ◌≤◌, List, get_or, sym, ap, ◌∙◌, subst, ap₂, arith}
+use Rattle.diagrams.specs.Diagram.{Target, terminal, node, level, Has, Of, Stands}
 use Rattle.diagrams.specs.Build.{constant_edge}
 use Rattle.diagrams.specs.Walk.{applies, restricts, Fair, TaskOf, follow, Settles}
 use Rattle.diagrams.proofs.Walk.Task.{settles_constant, settles_restricted}
@@ -15,7 +14,6 @@ use Rattle.tables.specs.Cards.{shape_of}
 use Rattle.tables.specs.Stores.{items}
 use Rattle.tables.specs.Did.{meaning_of, nodes_of}
 use Rattle.tables.specs.Walks.{told, task_of}
-use Rattle.tables.proofs.Goals.{goal_terminal, goal_node}
 use Rattle.tables.proofs.Facts.{laws, shape_laws, reduced_of}
 
 module _ (D : Diagrams) where
@@ -36,40 +34,27 @@ module _ (D : Diagrams) where
         subst (λ (n : Node). word_at n.key.edges i / 16384 < D.chart.labels) (sym is)
         ((reduced_of D).ordered.over r i there (subst (λ y. i < get_or D.card.sizes y 0) (sym own_there) hi)).label_within
 
-  -- what stands below every variable is a terminal
-  low_target : (e : Edge) → Of (meaning_of D) (nodes_of D) (arrow e)
-      → D.card.n ≤ level (shape_of D.card) (nodes_of D) (arrow e).target → e.word % 16384 < 4
-  low_target e of low =
-      ⊎_elim (λ h. h)
-      (λ h.
+  -- a node does not stand below every variable
+  pub node_high : (e : Edge) → Of (meaning_of D) (nodes_of D) (arrow e) → {r : ℕ} → node r ≡ (arrow e).target → level (shape_of D.card) (nodes_of D) (arrow e).target < D.card.n
+  node_high e of {r} leads =
       let d = nodes_of D in
-      let q = e.word % 16384 - 4 in
-      let is = goal_node (e.word % 16384) h in
-      let has = subst (Stands (meaning_of D) d) is of.over.stands in
-      let within = (shape_laws D).place_within (d.variable q) ((reduced_of D).ordered.variable_within q has) in
-      let low' = subst (λ (t : Target). D.card.n ≤ level (shape_of D.card) d t) is low in
-      absurd (omega arith))
-      (cases_lt (e.word % 16384) 4)
-
-  pub low_value : (e : Edge) → Of (meaning_of D) (nodes_of D) (arrow e)
-      → D.card.n ≤ level (shape_of D.card) (nodes_of D) (arrow e).target → e.word % 16384 < D.chart.radix
-  low_value e of low = subst (Stands (meaning_of D) (nodes_of D)) (goal_terminal _ (low_target e of low)) of.over.stands
+      let has = subst (Stands (meaning_of D) d) (sym leads) of.over.stands in
+      subst (λ (t : Target). level (shape_of D.card) d t < D.card.n) leads ((shape_laws D).place_within (d.variable r) ((reduced_of D).ordered.variable_within r has))
 
   -- two terminals give a constant
-  pub settled_pair : (answers : List ℕ) (t : Task) {a b : ℕ} (r : Edge) → Fair (meaning_of D) (shape_of D.card) (applies (told answers))
-      → (of : TaskOf (meaning_of D) (nodes_of D) (task_of t))
-      → D.card.n ≤ level (shape_of D.card) (nodes_of D) (arrow t.left).target
-      → D.card.n ≤ level (shape_of D.card) (nodes_of D) (arrow t.right).target
-      → a ≡ (meaning_of D).carry (t.left.word / 16384) (t.left.word % 16384)
-      → b ≡ (meaning_of D).carry (t.right.word / 16384) (t.right.word % 16384)
+  pub settled_pair : (answers : List ℕ) (t : Task) {u v a b : ℕ} (r : Edge) → Fair (meaning_of D) (shape_of D.card) (applies (told answers))
+      → TaskOf (meaning_of D) (nodes_of D) (task_of t)
+      → terminal u ≡ (arrow t.left).target
+      → terminal v ≡ (arrow t.right).target
+      → a ≡ (meaning_of D).carry (t.left.word / 16384) u
+      → b ≡ (meaning_of D).carry (t.right.word / 16384) v
       → arrow r ≡ constant_edge (meaning_of D) (get_or answers (4 * a + b) 0)
       → Settles (meaning_of D) (shape_of D.card) (nodes_of D) (applies (told answers)) (task_of t) (arrow r)
-  settled_pair answers t r fair of low-left low-right is-a is_b is =
+  settled_pair answers t r fair of left right is-a is-b is =
       let m = meaning_of D in
       subst (Settles m (shape_of D.card) (nodes_of D) (applies (told answers)) (task_of t))
-      (sym (is ∙ ap₂ (λ (a b : ℕ). constant_edge m (told answers a b)) is-a is_b))
-      (settles_constant (laws D) (shape_laws D) (reduced_of D) fair of (goal_terminal _ (low_target t.left of.left low-left))
-      (goal_terminal _ (low_target t.right of.right low-right)))
+      (sym (is ∙ ap₂ (λ (a b : ℕ). constant_edge m (told answers a b)) is-a is-b))
+      (settles_constant (laws D) (shape_laws D) (reduced_of D) fair of (sym left) (sym right))
 
   -- an edge that leads to a node of x or below it is followed
   pub settled_single : {x v : ℕ} (t : Task) (r : Edge) → Fair (meaning_of D) (shape_of D.card) (restricts x v)

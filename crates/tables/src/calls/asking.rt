@@ -6,8 +6,8 @@ ghost use Rattle.diagrams.specs.Refusals.{is_edge};
 ghost use Rattle.tables.specs.Edges.{arrow};
 ghost use Rattle.tables.specs.Did.{meaning_of, nodes_of, answer_of, Did, Opens};
 
-use crate::engine::labels::{home, product};
-use crate::engine::rows::constant_edge;
+use crate::engine::labels::home;
+use crate::engine::rows::{constant_edge, turned_edge};
 use crate::parts::card::Card;
 use crate::parts::edge::Edge;
 use crate::parts::holding::Diagrams;
@@ -56,8 +56,6 @@ impl Diagrams {
         if k >= self.chart.labels {
             return Err(Refusal::NoLabel);
         }
-        let label = e.label();
-        let turned = product(&self.chart, k, label);
-        Ok(Edge::to(turned, e.target()))
+        Ok(turned_edge(&self.chart, k, e))
     }
 }

@@ -1,6 +1,6 @@
 //! Edges of a table are followed.
 
-ghost use Rattle.std.specs.Prelude.{◌≡◌, ◌/◌, ◌%◌, ◌<◌, slice_index};
+ghost use Rattle.std.specs.Prelude.{◌≡◌, ◌<◌, slice_index};
 ghost use Rattle.diagrams.specs.Diagram.{level as level_of, Of};
 ghost use Rattle.diagrams.specs.Walk.{follow, child as child_of};
 ghost use Rattle.tables.specs.Cards.{shape_of};
@@ -8,7 +8,7 @@ ghost use Rattle.tables.specs.Edges.{arrow};
 ghost use Rattle.tables.specs.Did.{meaning_of, nodes_of};
 ghost use Rattle.tables.specs.Walks.{task_of, TaskIn};
 
-use crate::engine::labels::{carry, product};
+use crate::engine::rows::turned_edge;
 use crate::engine::task::Task;
 use crate::parts::edge::Edge;
 use crate::parts::holding::Diagrams;
@@ -39,8 +39,7 @@ impl Diagrams {
         if key.variable != x {
             return e;
         }
-        let f = key.edges[i as usize];
-        Edge::to(product(&self.chart, e.label(), f.label()), f.target())
+        turned_edge(&self.chart, e.label(), key.edges[i as usize])
     }
 
     /// The task where variable `x` has value `i`.
@@ -52,19 +51,6 @@ impl Diagrams {
         Task {
             left: self.branch(x, i, task.left),
             right: self.branch(x, i, task.right),
-        }
-    }
-
-    /// The value of an edge to a terminal.
-    pub(crate) fn worth(&self, e: Edge) -> u8
-        requires label { e.word / 16384 < self.now.chart.labels }
-        requires value { e.word % 16384 < self.now.chart.radix }
-        ensures value { result ≡ (meaning_of self.now).carry (e.word / 16384) (e.word % 16384) }
-        ensures bound { result < self.now.chart.radix }
-    {
-        match e.target() {
-            Target::Terminal(v) => carry(&self.chart, e.label(), v),
-            Target::Node(_) => unreachable!(),
         }
     }
 }

@@ -25,7 +25,7 @@ impl Frame {
             task,
             variable,
             done: 0,
-            edges: [Edge { word: 0 }; 4],
+            edges: [Edge::UNUSED; 4],
         }
     }
 

@@ -1,4 +1,4 @@
-//! Rows of edges: compared, turned, and made of constants.
+//! Edges and rows of edges: compared, turned, and made of constants.
 
 ghost use Rattle.std.specs.Prelude.{◌≡◌, ℕ, ◌-◌, ◌<◌, ◌≤◌, if◌then◌else◌, nat_eq};
 ghost use Rattle.mvl.specs.Charts.{chart_meaning};
@@ -26,12 +26,21 @@ fn filled<F: Fn(u8) -> Edge>(size: u8, edge: F) -> [Edge; 4]
     requires known { (i : ℕ) → i < size → F.pre edge i }
     ensures { FilledBy (F.post edge) size result }
 {
-    let mut row = [Edge { word: 0 }; 4];
-    // A loop: the size is known only when it runs, and `array::from_fn` would ask `edge` beyond it.
+    let mut row = [Edge::UNUSED; 4];
+    // A loop up to a size that is known only when it runs.
     for i in 0..size {
         row[i as usize] = edge(i);
     }
     row
+}
+
+/// An edge with a label more.
+pub(crate) fn turned_edge(chart: &Chart, k: u8, e: Edge) -> Edge
+    requires label { k < chart.now.labels }
+    requires own { (arrow e).label < chart.now.labels }
+    ensures { arrow result ≡ turning (chart_meaning chart.now) k (arrow e) }
+{
+    Edge::to(product(chart, k, e.label()), e.target())
 }
 
 /// The first edges with a label more, and the others unused.
@@ -41,10 +50,7 @@ pub(crate) fn turned(chart: &Chart, k: u8, edges: [Edge; 4], size: u8) -> [Edge;
     requires labels { (i : ℕ) → i < size → (arrows edges i).label < chart.now.labels }
     ensures { Filled (λ i. turning (chart_meaning chart.now) k (arrows edges i)) size result }
 {
-    filled(size, |i| {
-        let e = edges[i as usize];
-        Edge::to(product(chart, k, e.label()), e.target())
-    })
+    filled(size, |i| turned_edge(chart, k, edges[i as usize]))
 }
 
 /// The edge of a value.

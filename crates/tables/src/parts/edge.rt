@@ -14,6 +14,9 @@ pub struct Edge {
 }
 
 impl Edge {
+    /// Edge 0: what a variable's size leaves unused.
+    pub(crate) const UNUSED: Edge = Edge { word: 0 };
+
     /// The edge of a number.
     pub fn new(number: u16) -> Edge
         ensures { result ≡ record { word = number } }

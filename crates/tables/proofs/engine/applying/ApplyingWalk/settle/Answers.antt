@@ -1,14 +1,17 @@
-use Rattle.std.proofs.Common.{arith}
-use Rattle.tables.proofs.Walking.{low_value, settled_pair}
+use Rattle.std.proofs.Common.{ap, ◌∙◌, rules}
+use Rattle.tables.specs.Did.{meaning_of}
+use Rattle.tables.proofs.Walking.{node_high, settled_pair}
 use Rattle.tables.proofs.engine.applying.ApplyingWalk.settle.Goals as goal
 
-pub worth-a-requires-clause-value : goal.worth-a-requires-clause-value
-worth-a-requires-clause-value c = low_value c.args.diagrams.now c.args.task.left c.requires.of.left (omega arith)
-
-pub worth-b-requires-clause-value : goal.worth-b-requires-clause-value
-worth-b-requires-clause-value c = low_value c.args.diagrams.now c.args.task.right c.requires.of.right (omega arith)
+pub returns-in_default : goal.returns-in_default
+returns-in_default c =
+    let D = c.args.diagrams.now in
+    search (rules, node_high D c.args.task.left c.requires.of.left, node_high D c.args.task.right c.requires.of.right)
 
 pub returns : goal.returns
 returns c =
-    settled_pair c.args.diagrams.now c.args.self.now.answers c.args.task c.constant_edge.result c.requires.fair c.requires.of (omega arith) (omega arith)
-    c.worth-a.ensures.value c.worth-b.ensures.value c.constant_edge.ensures
+    let D = c.args.diagrams.now in
+    let both = c.in-Terminal-Terminal in
+    settled_pair D c.args.self.now.answers c.args.task c.constant_edge.result c.requires.fair c.requires.of both.ensures.value both.ensures'.value
+    (c.carry-a.ensures.value ∙ ap (λ k. (meaning_of D).carry k both.a) c.label.ensures.value)
+    (c.carry-b.ensures.value ∙ ap (λ k. (meaning_of D).carry k both.b) c.label-2.ensures.value) c.constant_edge.ensures

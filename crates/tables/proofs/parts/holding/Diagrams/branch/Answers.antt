@@ -5,5 +5,5 @@ use Rattle.tables.proofs.parts.holding.Diagrams.branch.Goals as goal
 pub bounds-key-i : goal.bounds-key-i
 bounds-key-i c = value_few c.args.self.now c.args.e c.requires.of c.in-Node.ensures.value c.read.ensures c.requires.value (omega arith)
 
-pub product-requires-clause-second : goal.product-requires-clause-second
-product-requires-clause-second c = omega (arith, label_there c.args.self.now c.args.e c.requires.of c.in-Node.ensures.value c.read.ensures c.requires.value (omega arith), c.label-2.ensures.value)
+pub turned_edge-requires-clause-own : goal.turned_edge-requires-clause-own
+turned_edge-requires-clause-own c = label_there c.args.self.now c.args.e c.requires.of c.in-Node.ensures.value c.read.ensures c.requires.value (omega arith)
