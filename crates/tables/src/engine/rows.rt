@@ -27,7 +27,7 @@ fn filled<F: Fn(u8) -> Edge>(size: u8, edge: F) -> [Edge; 4]
     ensures { FilledBy (F.post edge) size result }
 {
     let mut row = [Edge::UNUSED; 4];
-    // A loop up to a size that is known only when it runs.
+    // A loop: `array::from_fn` would test each of the four places against the size, and reads no plainer.
     for i in 0..size {
         row[i as usize] = edge(i);
     }
