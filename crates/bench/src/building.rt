@@ -37,14 +37,12 @@ fn joined<O: Operation>(
 
 /// The sum of the first `n` variables, modulo 4.
 pub(crate) fn sum(table: &mut Table<Cyclic>, n: u8) -> Result<Edge, Fault> {
-    let operation = CyclicSum::new(4)?;
-    joined(table, &operation, 0, n)
+    joined(table, &CyclicSum::new(4)?, 0, n)
 }
 
 /// The largest of eight variables.
 pub(crate) fn largest(table: &mut Table<Cyclic>) -> Result<Edge, Fault> {
-    let operation = Maximum::new(4)?;
-    joined(table, &operation, 0, 8)
+    joined(table, &Maximum::new(4)?, 0, 8)
 }
 
 // Whether the left value is at least the right one: 3 or 0.

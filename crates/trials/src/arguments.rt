@@ -32,8 +32,13 @@ impl<L: Labelling + Copy> Trial<L> {
     }
 
     pub(crate) fn some_label(&mut self) -> u8 {
+        self.label_or_below(255)
+    }
+
+    // Mostly a label; at times a number below `n`.
+    fn label_or_below(&mut self, n: u8) -> u8 {
         if self.random.once_in(8) {
-            return self.random.byte(255);
+            return self.random.byte(n);
         }
         self.random.byte(self.model.labels.count())
     }
@@ -70,11 +75,7 @@ impl<L: Labelling + Copy> Trial<L> {
     // Any label, and a target below `n`.
     fn wild(&mut self, n: usize) -> u16 {
         let target = (self.random.below(n) & 0x3fff) as u16;
-        let label = if self.random.once_in(8) {
-            self.random.byte(4)
-        } else {
-            self.random.byte(self.model.labels.count())
-        };
+        let label = self.label_or_below(4);
         u16::from(label).wrapping_mul(16384).wrapping_add(target)
     }
 }

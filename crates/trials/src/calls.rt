@@ -49,13 +49,26 @@ impl<L: Labelling + Copy> Trial<L> {
 
     fn judge_variable(&self, x: usize) -> Result<Function, Refusal> {
         let shape = &self.model.shape;
-        if x >= shape.n {
-            return Err(Refusal::NoVariable);
-        }
-        if shape.size(x) > usize::from(self.model.labels.radix) {
+        if self.judge_size(x)? > usize::from(self.model.labels.radix) {
             return Err(Refusal::TooWide);
         }
         Ok(Function::of(shape, |i| shape.digit(i, x)))
+    }
+
+    // The size of a variable, if there is one.
+    fn judge_size(&self, x: usize) -> Result<usize, Refusal> {
+        if x >= self.model.shape.n {
+            return Err(Refusal::NoVariable);
+        }
+        Ok(self.model.shape.size(x))
+    }
+
+    /// Whether there is such a variable, and then whether it has such a value.
+    pub(crate) fn judge_value(&self, x: usize, v: u8) -> Result<(), Refusal> {
+        if usize::from(v) >= self.judge_size(x)? {
+            return Err(Refusal::NoValue);
+        }
+        Ok(())
     }
 
     fn play_literal(&mut self) -> Result<(), Fault> {
@@ -67,13 +80,8 @@ impl<L: Labelling + Copy> Trial<L> {
     }
 
     fn judge_literal(&self, x: usize, v: u8) -> Result<Function, Refusal> {
+        self.judge_value(x, v)?;
         let shape = &self.model.shape;
-        if x >= shape.n {
-            return Err(Refusal::NoVariable);
-        }
-        if usize::from(v) >= shape.size(x) {
-            return Err(Refusal::NoValue);
-        }
         let top = self.model.labels.radix.wrapping_sub(1);
         Ok(Function::of(shape, |i| { if shape.digit(i, x) == v { top } else { 0 } }))
     }

@@ -5,9 +5,9 @@ use std::fmt;
 // An enum and matches, not the library's trait: the model has to know nothing of what it tests.
 #[derive(Clone, Copy)]
 pub(crate) enum Kind {
-    Plain,
-    Complement,
-    Cyclic,
+    Plain = 1,
+    Complement = 2,
+    Cyclic = 3,
 }
 
 /// A labelling by its name and radix.
@@ -33,12 +33,7 @@ impl fmt::Display for Labels {
 impl Labels {
     /// Another number for each.
     pub(crate) fn number(&self) -> u64 {
-        let kind = match self.kind {
-            Kind::Plain => 8,
-            Kind::Complement => 16,
-            Kind::Cyclic => 24,
-        };
-        u64::from(self.radix) + kind
+        u64::from(self.radix) + 8 * (self.kind as u64)
     }
 
     pub(crate) fn count(&self) -> u8 {

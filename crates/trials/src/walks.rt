@@ -27,13 +27,8 @@ impl<L: Labelling + Copy> Trial<L> {
 
     fn judge_restrict(&self, e: &Handed, x: usize, v: u8) -> Result<Function, Refusal> {
         let f = e.function.ok_or(Refusal::NoEdge)?;
+        self.judge_value(x, v)?;
         let shape = &self.model.shape;
-        if x >= shape.n {
-            return Err(Refusal::NoVariable);
-        }
-        if usize::from(v) >= shape.size(x) {
-            return Err(Refusal::NoValue);
-        }
         Ok(Function::of(shape, |i| f.at(shape.fixed(i, x, v))))
     }
 
@@ -70,7 +65,7 @@ impl<L: Labelling + Copy> Trial<L> {
         let bytes: Vec<u8> = (0..count)
             .map(|_| self.random.byte(end))
             .collect(self.heap)?;
-        let judged = judge_fill(p, long, &bytes);
+        let judged = judge_fill(p, &bytes);
         let found = table.fill(&bytes);
         agree_refused("a filling is refused with", judged.err(), found.err())?;
         let meaning = judged.unwrap_or(Meaning::of(p, |_, _| 0));
@@ -139,9 +134,9 @@ impl<L: Labelling + Copy> Trial<L> {
     }
 }
 
-// The meaning of a table operation that is filled with some bytes, too many where they are `long`.
-fn judge_fill(p: u8, long: bool, bytes: &[u8]) -> Result<Meaning, Refusal> {
-    if long {
+// The meaning of a table operation that is filled with some bytes.
+fn judge_fill(p: u8, bytes: &[u8]) -> Result<Meaning, Refusal> {
+    if bytes.len() != usize::from(p).wrapping_mul(usize::from(p)) {
         return Err(Refusal::WrongLength);
     }
     if bytes.iter().any(|byte| *byte >= p) {
