@@ -30,12 +30,11 @@ impl Frame {
     }
 
     /// One edge more.
-    pub(crate) fn with(mut self, edge: Edge) -> Frame
-        requires { self.done < 4 }
-        ensures { Extended self edge result }
+    pub(crate) fn add(&mut self, edge: Edge)
+        requires { self.old.done < 4 }
+        ensures { Extended self.old edge self.new }
     {
         self.edges[self.done as usize] = edge;
         self.done += 1;
-        self
     }
 }
