@@ -29,17 +29,12 @@ impl Frame {
         }
     }
 
-    /// One edge more. (Made anew: writes into `self` were tried, and a step took half as long again and more.)
-    pub(crate) fn with(self, edge: Edge) -> Frame
-        requires { self.done < 4 }
-        ensures { Extended self edge result }
+    /// One edge more.
+    pub(crate) fn add(&mut self, edge: Edge)
+        requires { self.old.done < 4 }
+        ensures { Extended self.old edge self.new }
     {
-        let mut edges = self.edges;
-        edges[self.done as usize] = edge;
-        Frame {
-            done: self.done + 1,
-            edges,
-            ..self
-        }
+        self.edges[self.done as usize] = edge;
+        self.done += 1;
     }
 }

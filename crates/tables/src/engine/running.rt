@@ -25,7 +25,7 @@ impl Diagrams {
             if top.done < self.card.sizes[top.variable as usize] {
                 let next = self.child(top.task, top.variable, top.done);
                 match walk.settle(self, next) {
-                    Next::Settled(r) => frames[k] = top.with(r),
+                    Next::Settled(r) => frames[k].add(r),
                     Next::Split(y) => {
                         k += 1;
                         frames[k] = Frame::of(next, y);
@@ -37,7 +37,7 @@ impl Diagrams {
                     return Ok(made);
                 }
                 k -= 1;
-                frames[k] = frames[k].with(made);
+                frames[k].add(made);
             }
         }
     }

@@ -13,11 +13,11 @@ settle-requires-clause-of g c = next_task c.loop-self.self c.loop-self.invariant
 
 pub loop-self-smaller-in-Settled : goal.loop-self-smaller-in-Settled
 loop-self-smaller-in-Settled g c =
-    fill_less c.loop-self.self c.loop-self.invariant c.if-top-self.true c.child-next.result c.child-next.ensures c.in-Settled.r c.with.ensures c.in-Settled.ensures
+    fill_less c.loop-self.self c.loop-self.invariant c.if-top-self.true c.child-next.result c.child-next.ensures c.in-Settled.r c.add.ensures c.in-Settled.ensures
 
 pub loop-self-preserved-in-Settled : goal.loop-self-preserved-in-Settled
 loop-self-preserved-in-Settled g c =
-    fill_again c.loop-self.self c.loop-self.invariant c.if-top-self.true c.child-next.result c.child-next.ensures c.in-Settled.r c.with.ensures c.in-Settled.ensures
+    fill_again c.loop-self.self c.loop-self.invariant c.if-top-self.true c.child-next.result c.child-next.ensures c.in-Settled.r c.add.ensures c.in-Settled.ensures
 
 pub bounds-frames-k-in-Split : goal.bounds-frames-k-in-Split
 bounds-frames-k-in-Split g c =
@@ -40,13 +40,13 @@ returns-in_err-made g c = search (rules, full_short c.loop-self.self c.loop-self
 pub returns-then-k-eq0 : goal.returns-then-k-eq0
 returns-then-k-eq0 g c = full_gained c.loop-self.self c.loop-self.invariant c.if-top-self.false c.in_ok-made.ensures c.if-k-eq0.true
 
-pub with-requires-else-top-self : goal.with-requires-else-top-self
-with-requires-else-top-self g c = below_few c.loop-self.self c.loop-self.invariant c.if-top-self.false c.in_ok-made.ensures (omega arith)
+pub add-requires-else-top-self : goal.add-requires-else-top-self
+add-requires-else-top-self g c = below_few c.loop-self.self c.loop-self.invariant c.if-top-self.false c.in_ok-made.ensures (omega arith)
 
 pub loop-self-smaller : goal.loop-self-smaller
 loop-self-smaller g c =
-    pop_less c.loop-self.self c.loop-self.invariant c.if-top-self.false c.in_ok-made.ensures (omega arith) c.with-else-top-self.ensures
+    pop_less c.loop-self.self c.loop-self.invariant c.if-top-self.false c.in_ok-made.ensures (omega arith) c.add-else-top-self.ensures
 
 pub loop-self-preserved : goal.loop-self-preserved
 loop-self-preserved g c =
-    pop_again c.loop-self.self c.loop-self.invariant c.if-top-self.false c.in_ok-made.ensures (omega arith) c.with-else-top-self.ensures
+    pop_again c.loop-self.self c.loop-self.invariant c.if-top-self.false c.in_ok-made.ensures (omega arith) c.add-else-top-self.ensures
