@@ -27,6 +27,7 @@ fn joined<O: Operation>(
     first: u8,
     end: u8,
 ) -> Result<Edge, Fault> {
+    // A loop: in a fold that may fail the closure would hold the table.
     let mut e = table.variable(first)?;
     for x in first.wrapping_add(1)..end {
         let f = table.variable(x)?;

@@ -9,7 +9,7 @@ use operations::table_operation::TableOperation;
 use tables::calls::table::Table;
 use tables::parts::edge::Edge;
 
-// What a call answered, as a number.
+// What a call answered, as a number: bench/baseline.c has the same, so that check sums can be compared.
 fn number(found: Result<Edge, Refusal>) -> u64 {
     match found {
         Ok(e) => u64::from(e.number()),

@@ -7,6 +7,7 @@ use crate::part::Part;
 use std::time::{Duration, Instant};
 
 /// Whether times are printed.
+// The runtime is handed to each function beside it, as a handle is.
 #[derive(Clone, Copy)]
 pub(crate) struct Teller {
     pub(crate) timed: bool,
@@ -42,8 +43,7 @@ impl Teller {
         let count = part.count;
         print!(rt; "{name}: check {check}, {count} {unit}s")?;
         if self.timed {
-            let seconds = spent.as_secs().wrapping_mul(1000000000);
-            let nanos = seconds.wrapping_add(u64::from(spent.subsec_nanos()));
+            let nanos = u64::try_from(spent.as_nanos()).unwrap_or(u64::MAX);
             let micros = nanos / 1000;
             let tenths = nanos.wrapping_mul(10) / count.max(1);
             let whole = tenths / 10;

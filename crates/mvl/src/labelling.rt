@@ -6,7 +6,7 @@ ghost use Rattle.mvl.specs.Answers.{Carries, Multiplies, Inverts, Homes};
 
 use crate::refusal::Refusal;
 
-// Plain, Complement and Cyclic are three impls: they differ in every formula, so that one type over a trait of actions would only pass calls on.
+// Plain, Complement and Cyclic are three impls of it: a rule of the project names them so, and each carries values by a formula of its own.
 /// Labels that carry values to values. Asking alters nothing. A value that is not below the radix is refused with 5, a label that is none
 /// with 6, the smaller number first.
 pub trait Labelling {

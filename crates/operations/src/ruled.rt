@@ -60,6 +60,7 @@ impl<R: Rule> Operation for Ruled<R> {
     }
 
     fn ask(&self, left: u8, right: u8) -> Result<u8, Refusal> {
+        // Tested here and in a table operation: a function for one comparison would read no plainer.
         let radix = self.radix.get();
         if left >= radix || right >= radix {
             return Err(Refusal::NoValue);

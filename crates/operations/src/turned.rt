@@ -15,7 +15,8 @@ pub struct Turned<O, L> {
     below: O,
     labelling: L,
     // Three fields, as `set` and its contract take them: a struct of three would be taken apart at once.
-    // Numbers, of which no ghost field says that they are labels: it would name what O and L mean, and specs above name this type without.
+    // No ghost field says that they are labels: it would need what O and L mean, and the definitions of scripts name this type without that.
+    // 0 where nothing is set: the rules say so, and label 0 changes nothing.
     left: u8,
     right: u8,
     answer: u8,

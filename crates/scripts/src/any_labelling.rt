@@ -19,7 +19,7 @@ pub enum AnyLabelling {
 }
 
 impl AnyLabelling {
-    // A labelling of a kind, for a radix that the kind serves.
+    // A labelling of a kind, for a radix that the kind serves. An arm for each kind, since a kind names a type.
     pub(crate) fn new(kind: LabellingKind, radix: u8) -> Result<AnyLabelling, Refusal>
         ensures { MakesLabelling kind radix result }
     {
@@ -31,7 +31,7 @@ impl AnyLabelling {
     }
 }
 
-// Each method is passed on by hand: a labelling is kept by value, and what hands out a `dyn` value is refused.
+// Each method is passed on by hand: the gate refuses a function that hands out a `dyn` value.
 impl Labelling for AnyLabelling {
     ghost meaning = { labelling_meaning };
 

@@ -26,7 +26,7 @@ pub enum AnyOperation {
 }
 
 impl AnyOperation {
-    // An operation of a kind, for a radix from 2 to 4. A table operation answers 0 until it is filled.
+    // An operation of a kind, for a radix from 2 to 4. A table operation answers 0 until it is filled. An arm for each kind, since a kind names a type.
     pub(crate) fn new(kind: OperationKind, radix: u8) -> Result<AnyOperation, Refusal>
         ensures { MakesOperation kind radix result }
     {
@@ -52,7 +52,7 @@ impl AnyOperation {
     }
 }
 
-// Each method is passed on by hand: an operation is kept by value, and what hands out a `dyn` value is refused.
+// Each method is passed on by hand: the gate refuses a function that hands out a `dyn` value.
 impl Operation for AnyOperation {
     ghost meaning = { operation_meaning };
 

@@ -14,6 +14,7 @@ use operations::operation::Operation;
 use operations::table_operation::TableOperation;
 use operations::turned::Turned;
 
+// An enum, and no Result: neither is an error.
 #[derive(Clone, Copy)]
 pub enum Chosen {
     Alone(AnyOperation),

@@ -37,6 +37,7 @@ pub enum Unread {
     NoMemory,
 }
 
+// Each `From` by hand: a contract names what `?` makes of an error, of which a derive says nothing.
 impl From<AllocError> for Unread {
     ghost from_gives = { λ _ u. u ≡ unread.NoMemory };
 
@@ -59,6 +60,7 @@ pub enum Fault {
     Unread(Unread),
     /// The line needs what is not at hand.
     Lacking(Missing),
+    // Memory is wanted to keep an entry too, after its line was read.
     NoMemory,
 }
 

@@ -29,6 +29,7 @@ pub enum OperationKind {
 #[derive(Clone, Copy, Debug, PartialEq, Eq)]
 pub struct UnknownKind;
 
+// Two kinds side by side, each with its table of words: the contract of each names its own.
 impl LabellingKind {
     fn word(&self) -> &'static str
         ensures { result.now ≡ labelling_word self.now }

@@ -1,6 +1,6 @@
 //! Entries and failures in print.
 //!
-//! By hand: what is printed depends on more than one field, or on whether there is a word, which no derive has a text for.
+//! By hand: what most print depends on whether there is a word, a line or an answer, and the texts stand together.
 
 use crate::command::Command;
 use crate::entry::{Entry, Expected, Failure, Fault, Unread};

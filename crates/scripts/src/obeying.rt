@@ -45,11 +45,11 @@ impl Session {
         self.operation()?.table()
     }
 
+    // A function for each choice, of one statement: one for both would have to be told what to make and where to put it.
     fn choose_labelling(&mut self, kind: LabellingKind, radix: u8) -> Result<(), Refusal>
         ensures { ChoosesLabelling self.old kind radix result self.new }
     {
-        let labelling = AnyLabelling::new(kind, radix)?;
-        self.labelling = Some(labelling);
+        self.labelling = Some(AnyLabelling::new(kind, radix)?);
         Ok(())
     }
 

@@ -12,7 +12,7 @@ struct Words<'a> {
     rest: SplitWhitespace<'a>,
 }
 
-// What is told of a word, or of the end of the line, where something else was expected.
+// What is told of a word, or of the end of the line, where something else was expected. A match: want of memory is told in its place.
 fn senseless(heap: Global, expected: Expected, found: Option<&str>) -> Unread {
     match found.map(|word| String::from_str(heap, word)).transpose() {
         Ok(found) => Unread::Senseless { expected, found },
@@ -45,12 +45,14 @@ impl Words<'_> {
     // The numbers up to the end of the line.
     fn numbers(&mut self) -> Result<Vec<u8>, Unread> {
         let mut all = Vec::new(self.heap);
+        // A loop: each turn may fail in two ways, and `?` joins them.
         for word in self.rest.by_ref() {
             all.push(spelled(self.heap, Expected::Number, Some(word))?)?;
         }
         Ok(all)
     }
 
+    // A match: no word is the good case here.
     fn end(&mut self) -> Result<(), Unread> {
         match self.rest.next() {
             None => Ok(()),

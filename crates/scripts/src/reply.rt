@@ -4,6 +4,7 @@ use crate::grid::Grid;
 use mvl::refusal::Refusal;
 
 /// What a command is answered.
+// A Result in each of three: the other two are never refused.
 #[derive(Clone, Copy)]
 pub enum Reply {
     /// To a choice, a fill or a turn.

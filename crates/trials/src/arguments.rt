@@ -13,7 +13,7 @@ pub(crate) struct Handed {
     pub(crate) function: Option<Function>,
 }
 
-impl<L: Labelling + Copy> Trial<L> {
+impl<L: Labelling + Copy> Trial<'_, L> {
     pub(crate) fn some_variable(&mut self) -> u8 {
         let n = self.model.shape.n as u8;
         if self.random.once_in(16) {

@@ -6,7 +6,7 @@ use crate::trial::Trial;
 use mvl::labelling::Labelling;
 use mvl::refusal::Refusal;
 
-impl<L: Labelling + Copy> Trial<L> {
+impl<L: Labelling + Copy> Trial<'_, L> {
     /// Calls in a row, and then everything is read once more.
     pub(crate) fn run(&mut self) -> Result<(), Fault> {
         let calls = self.random.below(120).wrapping_add(20);
@@ -16,6 +16,8 @@ impl<L: Labelling + Copy> Trial<L> {
         self.read_all()
     }
 
+    // By a number that is drawn: the gate refuses a list of functions that is handed out. Each call draws, judges and asks by itself, since
+    // all have other arguments; what they share is `settle`.
     fn play(&mut self) -> Result<(), Fault> {
         match self.random.below(32) {
             0 => self.play_constant(),

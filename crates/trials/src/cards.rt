@@ -34,6 +34,7 @@ impl Filling {
     }
 
     /// Whether a new card has this shape and capacity.
+    // Part by part, since a new card is no filling.
     pub(crate) fn is_new(&self) -> bool {
         self.shape.n == 1 && self.shape.size(0) == 2 && self.capacity == 0
     }
@@ -56,7 +57,7 @@ impl<L: Labelling + Copy + Drop> Round<L> {
 
     // A number of sizes, a size or a capacity that is out of range.
     fn fill_badly(&mut self, card: &mut Card, filling: &Filling) -> Result<(), Fault> {
-        // An array, of which as many are handed in as the trial wants: a `Vec` could want memory.
+        // An array, of which as many are handed in as the trial wants: a Vec of them would read no plainer.
         let mut sizes = [3u8; 13];
         let mut n = filling.shape.n;
         let mut capacity = self.random.below(2001);

@@ -5,6 +5,7 @@ use std::alloc::AllocError;
 use thiserror::Error;
 
 /// What was expected and found; a refusal by its number, and 0 where there was none.
+// Numbers, for yes and no too: that is how a difference is printed.
 #[derive(Clone, Copy, Debug, Error)]
 #[error("{what}: expected {expected}, found {found}")]
 pub(crate) struct Difference {

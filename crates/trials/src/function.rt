@@ -6,7 +6,9 @@ use crate::labels::Labels;
 use crate::shape::Shape;
 use std::array;
 
-/// The value at each assignment, and 0 behind them. An array, so that a function can be copied.
+/// The value at each assignment, and 0 behind them.
+// An array that reads 0 beyond its end: a Vec would make each of the many copies a call that can fail, and an index would have to be shown to fit.
+// The shape is handed in: a function that held it would be copied and compared with it.
 #[derive(Clone, Copy, PartialEq, Eq)]
 pub(crate) struct Function {
     values: [u8; 256],

@@ -53,6 +53,7 @@ impl Plan {
         Ok(Plan { seed, calls })
     }
 
+    // An arm for each kind, since a kind names a type.
     // How many calls were played with labels of one kind and radix: none where the labelling does not serve that radix.
     fn play(&self, rt: &HostRuntime, labels: Labels) -> anyhow::Result<usize> {
         match labels.kind {

@@ -7,6 +7,7 @@ use crate::labels::Labels;
 use crate::shape::Shape;
 
 /// The radix, and for each value below it a row with the answer for it and each value below the radix.
+// An array, as of a function.
 #[derive(Clone, Copy)]
 pub(crate) struct Meaning {
     pub(crate) radix: u8,

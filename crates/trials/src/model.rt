@@ -40,6 +40,7 @@ impl Model {
         self.nodes.values().any(|node| *node == *function)
     }
 
+    // By hand: the model reads numbers of edges by the rules, and not by the code that it tests.
     /// The function of the edge with this number; none where it is no edge of the table.
     pub(crate) fn edge(&self, number: u16) -> Option<Function> {
         let label = (number / 16384) as u8;

@@ -32,7 +32,8 @@ impl Random {
         self.next() as usize % n.max(1)
     }
 
-    /// A byte below `n`, from the last bits alone, so not what `below` would draw; 0 where that is 0.
+    /// A byte below `n`, from the last bits alone; 0 where that is 0.
+    // Not by `below`, which draws other bits: the lists of calls are to stay what they are.
     pub(crate) fn byte(&mut self, n: u8) -> u8
         ensures { 0 < n → result < n }
     {

@@ -8,7 +8,7 @@ use mvl::labelling::Labelling;
 use mvl::refusal::Refusal;
 use tables::calls::reading::Reading;
 
-impl<L: Labelling + Copy> Trial<L> {
+impl<L: Labelling + Copy> Trial<'_, L> {
     pub(crate) fn play_evaluate(&mut self) -> Result<(), Fault> {
         let e = self.some_edge();
         let i = self.random.below(self.model.shape.count());

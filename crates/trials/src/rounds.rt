@@ -25,6 +25,7 @@ pub(crate) struct Round<L> {
 impl<L: Labelling + Copy + Drop> Round<L> {
     /// At least as many calls as asked for.
     pub(crate) fn play(&mut self, calls: usize) -> Result<(), Fault> {
+        // A counted loop that breaks off: it is seen to end.
         for _ in 0..calls {
             if self.tally.calls >= calls {
                 break;
@@ -60,20 +61,16 @@ impl<L: Labelling + Copy + Drop> Round<L> {
         }
         let table = Table::open(self.heap, card, self.labelling)?;
         let model = Model::new(self.heap, filling.shape, self.labels, filling.capacity);
-        // Copied in and out: through the round, each of the trial's uses of them would be longer.
         let mut trial = Trial {
             heap: self.heap,
             labelling: self.labelling,
             table,
             model,
-            random: self.random,
-            tally: self.tally,
+            random: &mut self.random,
+            tally: &mut self.tally,
             mark: None,
         };
-        let result = trial.run();
-        self.random = trial.random;
-        self.tally = trial.tally;
-        result?;
+        trial.run()?;
         Ok(trial.mark)
     }
 }

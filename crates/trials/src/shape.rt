@@ -4,7 +4,8 @@ ghost use Rattle.std.specs.Prelude.{◌<◌, ◌≤◌};
 
 use std::array;
 
-/// The number of variables, at most 4, and the size of each. An array, so that a shape can be copied.
+/// The number of variables, at most 4, and the size of each.
+// An array: a Vec would make each copy a call that can fail.
 #[derive(Clone, Copy)]
 pub(crate) struct Shape {
     pub(crate) n: usize,
@@ -18,7 +19,7 @@ impl Shape {
         &self.sizes[..self.n]
     }
 
-    /// The size of variable `x`; 1 where there is none.
+    /// The size of variable `x`; 1 where there is none, so that a value of it can be drawn.
     pub(crate) fn size(&self, x: usize) -> usize
         ensures some { 0 < result }
         ensures byte { result < 256 }

@@ -3,7 +3,8 @@
 use mvl::refusal::Refusal;
 use std::fmt;
 
-/// The refusals are counted by number, in an array, so that counting asks for no memory.
+/// The refusals are counted by number.
+// In an array: they are printed in this order, and to count cannot fail.
 #[derive(Clone, Copy)]
 pub(crate) struct Tally {
     pub(crate) calls: usize,

@@ -13,18 +13,18 @@ use tables::calls::table::Table;
 use tables::parts::edge::Edge;
 
 #[derive(Drop)]
-pub(crate) struct Trial<L: Labelling> {
+pub(crate) struct Trial<'a, L: Labelling> {
     pub(crate) heap: Global,
     pub(crate) labelling: L,
     pub(crate) table: Table<L>,
     pub(crate) model: Model,
-    pub(crate) random: Random,
-    pub(crate) tally: Tally,
+    pub(crate) random: &'a mut Random,
+    pub(crate) tally: &'a mut Tally,
     /// The number of nodes after some call that added several.
     pub(crate) mark: Option<usize>,
 }
 
-impl<L: Labelling> Trial<L> {
+impl<L: Labelling> Trial<'_, L> {
     /// What a call answered, against the function that it should have or the reason for which it should be refused. The room is
     /// tested here.
     pub(crate) fn settle(
@@ -133,7 +133,7 @@ impl<L: Labelling> Trial<L> {
     }
 
     fn new_node(&mut self, r: usize, missing: &[Function]) -> Result<(), Fault> {
-        // Not by `Function::of`, since a reading may be refused.
+        // A loop, and not `Function::of`: a reading may be refused, and this is the one place where it may.
         let mut function = Function::zero();
         for i in 0..self.model.shape.count() {
             let reading = granted("a node is read", self.read(edge_of(r), i))?;
@@ -166,6 +166,7 @@ impl<L: Labelling> Trial<L> {
         Ok(())
     }
 
+    // Compared here and where an evaluation is played, each in words of its own.
     fn read_kept(&self, i: usize) -> Result<(), Fault> {
         for kept in self.model.kept.iter() {
             let reading = granted("a kept edge is read", self.read(Edge::new(kept.number), i))?;

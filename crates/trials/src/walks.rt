@@ -15,7 +15,7 @@ use operations::table_operation::TableOperation;
 use operations::truncated_sum::TruncatedSum;
 use operations::turned::Turned;
 
-impl<L: Labelling + Copy> Trial<L> {
+impl<L: Labelling + Copy> Trial<'_, L> {
     pub(crate) fn play_restrict(&mut self) -> Result<(), Fault> {
         let e = self.some_edge();
         let x = self.some_variable();
@@ -39,6 +39,7 @@ impl<L: Labelling + Copy> Trial<L> {
         } else {
             self.model.labels.radix
         };
+        // By a number that is drawn, each with a type of its own.
         match self.random.below(6) {
             0 => self.operate(Minimum::new(p), Meaning::of(p, |a, b| a.min(b))),
             1 => self.operate(Maximum::new(p), Meaning::of(p, |a, b| a.max(b))),
@@ -72,7 +73,7 @@ impl<L: Labelling + Copy> Trial<L> {
         self.operate(Ok(table), meaning)
     }
 
-    // The operation as it is, or turned.
+    // The operation as it is, or turned. Its meaning goes beside it: each operation has a type of its own, and the model only one for all.
     fn operate<O: Operation + Copy>(
         &mut self,
         made: Result<O, Refusal>,

@@ -18,6 +18,7 @@ use mvl::refusal::Refusal;
 use operations::operation::Operation;
 use std::alloc::{AllocError, Global};
 
+// Each call is handed on to `Diagrams`, where it is proved: the invariant of a generic owner of memory cannot name what L means.
 /// Every function has one edge. What a call refuses it refuses by the smallest number that applies, and leaves the table as it was.
 #[derive(Drop)]
 pub struct Table<L: Labelling> {

@@ -11,6 +11,7 @@ use crate::parts::holding::Diagrams;
 use crate::parts::target::Target;
 
 /// The operation's answer for (a, b) is at 4 * a + b.
+// An array, as a chart's: it is made once for each walk, without memory.
 #[derive(Clone, Copy)]
 pub(crate) struct Applying {
     pub(crate) answers: [u8; 16],

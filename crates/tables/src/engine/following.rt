@@ -15,7 +15,7 @@ use crate::parts::holding::Diagrams;
 use crate::parts::target::Target;
 
 impl Diagrams {
-    /// The place of an edge's target: a terminal stands below every variable.
+    /// The place of an edge's target: a terminal stands below every variable, in place n, as the definition has it.
     pub(crate) fn level(&self, e: Edge) -> usize
         requires { Of (meaning_of self.now) (nodes_of self.now) (arrow e) }
         ensures { result ≡ level_of (shape_of self.now.card) (nodes_of self.now) (arrow e).target }

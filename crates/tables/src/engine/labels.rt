@@ -1,6 +1,7 @@
 //! The answers of a chart, read from its rows.
 //!
-//! Free functions: `Chart` is another crate's type, and has methods of these names that test what they are handed.
+//! Free functions: `Chart` is another crate's type, and has methods of these names that test what they are handed, which a walk need not do
+//! again. What they ask is a bound of the chart at hand, which no type of a label or a value can hold.
 
 ghost use Rattle.std.specs.Prelude.{◌≡◌, ◌<◌};
 ghost use Rattle.mvl.specs.Labels.{product as times, inverse as back, home as base, home_label as lifted};

@@ -34,6 +34,7 @@ impl Card {
         }
         let mut own = [0u8; 12];
         own[..n].copy_from_slice(sizes);
+        // Both rows written out, so that the check reads off that they undo one another.
         *self = Card {
             order: [0, 1, 2, 3, 4, 5, 6, 7, 8, 9, 10, 11],
             place: [0, 1, 2, 3, 4, 5, 6, 7, 8, 9, 10, 11],

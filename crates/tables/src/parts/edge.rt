@@ -13,6 +13,7 @@ pub struct Edge {
     pub(crate) word: u16,
 }
 
+// Functions with names, as callers know them: a `From` beside each would say the same again.
 impl Edge {
     /// Edge 0: what a variable's size leaves unused.
     pub(crate) const UNUSED: Edge = Edge { word: 0 };

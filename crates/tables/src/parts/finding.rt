@@ -12,6 +12,7 @@ impl Store {
     pub(crate) fn find(&self, key: Key) -> Option<usize>
         ensures { Finds (items self.now) key result }
     {
+        // A loop: a chain has no length beforehand.
         let mut link = self.heads[key.hash()];
         while let Some(r) = link.record() {
             let node = self.read(r);

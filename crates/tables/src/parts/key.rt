@@ -14,6 +14,7 @@ pub(crate) struct Key {
 }
 
 impl Key {
+    // Written out: the definition of the chain is this formula.
     /// Its chain: the middle bits of a sum of products with odd numbers of 26 bits, so that each bit of a word can move each bit.
     pub(crate) fn hash(self) -> usize
         ensures value { result ≡ hash_of self }

@@ -6,7 +6,7 @@ ghost use Rattle.tables.specs.Records.{LeadsTo};
 /// The next record of a chain, or none. A link never leaves the store.
 #[derive(Clone, Copy)]
 pub(crate) struct Link {
-    // 0 is none, 1 + r is record r: an Option of a u16 has four bytes, which would make a node of 12 bytes one of 14.
+    // 0 is none, 1 + r is record r, read and made in this file alone: an Option would read no plainer, and make a node of 12 bytes one of 14.
     to: u16,
 }
 

@@ -8,7 +8,8 @@ use crate::parts::link::Link;
 use crate::parts::node::Node;
 
 /// The records of the nodes, in memory that is reserved when the table is opened, and the heads of the chains by which they are found.
-// Records named by number, and no boxes: a rule of the project wants them in a plain store, and an edge's number has that of its node.
+// Records named by number, and no boxes: a rule of the project wants them in a plain store, and a node's number is part of its edge's.
+// A limit beside the Vec, which may have more room than it was asked for.
 #[derive(Drop)]
 pub(crate) struct Store {
     pub(crate) nodes: Vec<Node>,

@@ -49,6 +49,7 @@ impl Store {
         self.nodes.push_reserved(Node { key, next });
     }
 
+    // Read and cut off: `Vec::pop` would leave a case that cannot be.
     /// The last record, taken back.
     fn pop(&mut self)
         requires { 0 < length (items self.old) }
