@@ -5,7 +5,7 @@ use Rattle.diagrams.specs.Shape.{Assignment}
 use Rattle.diagrams.specs.Diagram.{Target, terminal, node, Edge as Arrow, edge_to, Nodes, value, visits, level, Over}
 use Rattle.diagrams.proofs.Reading.Edges.{turned_over}
 use Rattle.diagrams.proofs.Reading.Values.{reads_terminal, value_node, visits_node, node_level}
-use Rattle.tables.specs.declared.parts.node.Node.{Node}
+use Rattle.tables.specs.declared.parts.key.Key.{Key}
 use Rattle.tables.specs.declared.parts.target.Target.{Target as Aim}
 use Rattle.tables.specs.declared.parts.holding.Diagrams.{Diagrams}
 use Rattle.tables.specs.Edges.{target_of, word_at, arrows}
@@ -56,24 +56,24 @@ module _ (D : Diagrams) {e : Arrow} {a : ℕ → ℕ} (assigns : Assignment (sha
           low = omega arith;
         }
 
-    -- the same of a record that was read
-    module _ {x : Node} (is : x ≡ at (items D.store) r) where
-      pub read_variable : x.key.variable < D.card.n
-      read_variable = subst (λ (y : Node). y.key.variable < D.card.n) (sym is) variable_low
+    -- the same of a key that was read
+    module _ {k : Key} (is : k ≡ (at (items D.store) r).key) where
+      pub read_variable : k.variable < D.card.n
+      read_variable = subst (λ (y : Key). y.variable < D.card.n) (sym is) variable_low
 
-      pub read_value : a x.key.variable < 4
+      pub read_value : a k.variable < 4
       read_value =
-          subst (λ (y : Node). a y.key.variable < 4) (sym is)
+          subst (λ (y : Key). a y.variable < 4) (sym is)
           (omega (arith, value_low, (shape_laws D).size_high ((nodes_of D).variable r) variable_low))
 
-      pub read_label : word_at x.key.edges (a x.key.variable) / 16384 < D.chart.labels
-      read_label = subst (λ (y : Node). word_at y.key.edges (a y.key.variable) / 16384 < D.chart.labels) (sym is) over_taken.label_within
+      pub read_label : word_at k.edges (a k.variable) / 16384 < D.chart.labels
+      read_label = subst (λ (y : Key). word_at y.edges (a y.variable) / 16384 < D.chart.labels) (sym is) over_taken.label_within
 
-      pub read_on : {label' : ℕ} {t : Target} → label' ≡ product (meaning_of D) label (word_at x.key.edges (a x.key.variable) / 16384)
-          → t ≡ (arrows x.key.edges (a x.key.variable)).target → Following D e a label' t (visited + 1)
+      pub read_on : {label' : ℕ} {t : Target} → label' ≡ product (meaning_of D) label (word_at k.edges (a k.variable) / 16384)
+          → t ≡ (arrows k.edges (a k.variable)).target → Following D e a label' t (visited + 1)
       read_on l t =
-          subst₂ (λ k g. Following D e a k g (visited + 1)) (sym l) (sym t)
-          (subst (λ (y : Node). Following D e a (product (meaning_of D) label (word_at y.key.edges (a y.key.variable) / 16384)) (arrows y.key.edges (a y.key.variable)).target (visited + 1)) (sym is) follow_on)
+          subst₂ (λ l g. Following D e a l g (visited + 1)) (sym l) (sym t)
+          (subst (λ (y : Key). Following D e a (product (meaning_of D) label (word_at y.edges (a y.variable) / 16384)) (arrows y.edges (a y.variable)).target (visited + 1)) (sym is) follow_on)
 
   -- a terminal is reached
   module _ {v : ℕ} (f : Following D e a label (terminal v) visited) where

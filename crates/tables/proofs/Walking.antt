@@ -5,7 +5,7 @@ use Rattle.diagrams.specs.Build.{constant_edge}
 use Rattle.diagrams.specs.Walk.{applies, restricts, Fair, TaskOf, follow, Settles}
 use Rattle.diagrams.proofs.Walk.Task.{settles_constant, settles_restricted}
 use Rattle.tables.specs.declared.parts.edge.Edge.{Edge}
-use Rattle.tables.specs.declared.parts.node.Node.{Node}
+use Rattle.tables.specs.declared.parts.key.Key.{Key}
 use Rattle.tables.specs.declared.engine.task.Task.{Task}
 use Rattle.tables.specs.declared.parts.holding.Diagrams.{Diagrams}
 use Rattle.tables.specs.Edges.{arrow, word_at}
@@ -17,21 +17,21 @@ use Rattle.tables.specs.Walks.{told, task_of}
 use Rattle.tables.proofs.Facts.{laws, shape_laws, reduced_of}
 
 module _ (D : Diagrams) where
-  -- the node that an edge of the table leads to, as it was read, at a value of its variable
-  module _ (e : Edge) (of : Of (meaning_of D) (nodes_of D) (arrow e)) {r : ℕ} (leads : node r ≡ (arrow e).target) {n : Node} (is : n ≡ at (items D.store) r)
-      {x i : ℕ} (hi : i < get_or D.card.sizes x 0) (own : n.key.variable ≡ x) where
+  -- the key of the node that an edge of the table leads to, as it was read, at a value of its variable
+  module _ (e : Edge) (of : Of (meaning_of D) (nodes_of D) (arrow e)) {r : ℕ} (leads : node r ≡ (arrow e).target) {k : Key} (is : k ≡ (at (items D.store) r).key)
+      {x i : ℕ} (hi : i < get_or D.card.sizes x 0) (own : k.variable ≡ x) where
     there : Has (nodes_of D) r
     there = subst (Stands (meaning_of D) (nodes_of D)) (sym leads) of.over.stands
 
     own_there : (nodes_of D).variable r ≡ x
-    own_there = ap (λ (n : Node). n.key.variable) (sym is) ∙ own
+    own_there = ap (λ (k : Key). k.variable) (sym is) ∙ own
 
     pub value_few : i < 4
     value_few = omega (arith, (shape_laws D).size_high x (subst (λ y. y < D.card.n) own_there ((reduced_of D).ordered.variable_within r there)))
 
-    pub label_there : word_at n.key.edges i / 16384 < D.chart.labels
+    pub label_there : word_at k.edges i / 16384 < D.chart.labels
     label_there =
-        subst (λ (n : Node). word_at n.key.edges i / 16384 < D.chart.labels) (sym is)
+        subst (λ (k : Key). word_at k.edges i / 16384 < D.chart.labels) (sym is)
         ((reduced_of D).ordered.over r i there (subst (λ y. i < get_or D.card.sizes y 0) (sym own_there) hi)).label_within
 
   -- a node does not stand below every variable

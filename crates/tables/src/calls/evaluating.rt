@@ -35,7 +35,7 @@ impl Diagrams {
                     return Reading { value, visited };
                 }
                 Target::Node(r) => {
-                    let key = self.store.read(r).key;
+                    let key = self.store.key(r);
                     let value = assignment[key.variable as usize];
                     let edge = key.edges[value as usize];
                     label = product(&self.chart, label, edge.label());

@@ -22,7 +22,7 @@ impl Diagrams {
     {
         match e.target() {
             Target::Terminal(_) => self.card.n,
-            Target::Node(r) => self.card.place[self.store.read(r).key.variable as usize] as usize,
+            Target::Node(r) => self.card.place[self.store.key(r).variable as usize] as usize,
         }
     }
 
@@ -35,7 +35,7 @@ impl Diagrams {
         let Target::Node(r) = e.target() else {
             return e;
         };
-        let key = self.store.read(r).key;
+        let key = self.store.key(r);
         if key.variable != x {
             return e;
         }

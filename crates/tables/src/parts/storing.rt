@@ -36,6 +36,14 @@ impl Store {
         self.nodes[i]
     }
 
+    /// The key of a record.
+    pub(crate) fn key(&self, i: usize) -> &Key
+        requires { i < length (items self.now) }
+        ensures { result.now ≡ (at (items self.now) i).key }
+    {
+        &self.nodes[i].key
+    }
+
     /// One record more, at the head of its chain.
     pub(crate) fn push(&mut self, key: Key)
         requires room { length (items self.old) < self.old.limit }

@@ -22,19 +22,19 @@ returns-in-Terminal c =
       bound = visited_few D c.requires.assigns f;
     }
 
-pub read-requires : goal.read-requires
-read-requires c = within c.args.self.now c.requires.assigns (reached c.in-Node.is c.loop-target.invariant)
+pub key-key-requires : goal.key-key-requires
+key-key-requires c = within c.args.self.now c.requires.assigns (reached c.in-Node.is c.loop-target.invariant)
 
 pub bounds-assignment-key : goal.bounds-assignment-key
-bounds-assignment-key c = omega (arith, read_variable c.args.self.now c.requires.assigns (reached c.in-Node.is c.loop-target.invariant) c.read.ensures, c.requires.length)
+bounds-assignment-key c = omega (arith, read_variable c.args.self.now c.requires.assigns (reached c.in-Node.is c.loop-target.invariant) c.key-key.ensures, c.requires.length)
 
 pub bounds-key-value : goal.bounds-key-value
-bounds-key-value c = read_value c.args.self.now c.requires.assigns (reached c.in-Node.is c.loop-target.invariant) c.read.ensures
+bounds-key-value c = read_value c.args.self.now c.requires.assigns (reached c.in-Node.is c.loop-target.invariant) c.key-key.ensures
 
 pub product-label-requires : goal.product-label-requires
 product-label-requires c =
     let f = reached c.in-Node.is c.loop-target.invariant in
-    let low = read_label c.args.self.now c.requires.assigns f c.read.ensures in
+    let low = read_label c.args.self.now c.requires.assigns f c.key-key.ensures in
     record { first = f.over.label_within; second = omega (arith, low, c.label.ensures.value) }
 
 pub overflow_add-visited : goal.overflow_add-visited
@@ -45,5 +45,5 @@ loop-target-smaller c = omega (arith, visited_low c.args.self.now c.requires.ass
 
 pub loop-target-preserved : goal.loop-target-preserved
 loop-target-preserved c =
-    read_on c.args.self.now c.requires.assigns (reached c.in-Node.is c.loop-target.invariant) c.read.ensures
+    read_on c.args.self.now c.requires.assigns (reached c.in-Node.is c.loop-target.invariant) c.key-key.ensures
     (c.product-label.ensures.value ∙ ap (product (meaning_of c.args.self.now) c.loop-target.label) c.label.ensures.value) c.target-target-in-Node.ensures.value
