@@ -48,6 +48,7 @@ impl Function {
         Function::of(shape, |i| labels.carry(k, self.at(i)))
     }
 
+    // A subfunction is named by its place and start here, below and in the model: a type of these two would read no plainer.
     /// Whether the subfunction from place `x` on that begins at assignment `start` depends on the variable of that place.
     pub(crate) fn depends(&self, shape: &Shape, x: usize, start: usize) -> bool {
         let below = shape.width(x.wrapping_add(1));

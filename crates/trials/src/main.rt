@@ -42,15 +42,12 @@ struct Plan {
 impl Plan {
     fn read(rt: &HostRuntime) -> anyhow::Result<Plan> {
         let mut words = env::args(rt)?.skip(1);
-        let seed = match words.next() {
-            Some(word) => word.as_str().parse::<u64>()?,
-            None => 1,
-        };
-        let calls = match words.next() {
-            Some(word) => word.as_str().parse::<usize>()?,
-            None => 25_000,
-        };
-        Ok(Plan { seed, calls })
+        let seed = words.next().map(|word| word.as_str().parse::<u64>());
+        let calls = words.next().map(|word| word.as_str().parse::<usize>());
+        Ok(Plan {
+            seed: seed.transpose()?.unwrap_or(1),
+            calls: calls.transpose()?.unwrap_or(25_000),
+        })
     }
 
     // An arm for each kind, since a kind names a type.

@@ -57,10 +57,8 @@ impl Model {
             return self.nodes.get(&(target - 4)).copied();
         }
         let v = target as u8;
-        if self.labels.home(v) == Some(v) {
-            return Some(Function::constant(&self.shape, v));
-        }
-        None
+        let is_home = self.labels.home(v) == Some(v);
+        is_home.then(|| Function::constant(&self.shape, v))
     }
 
     /// The functions of the nodes of a diagram that the table has not yet.

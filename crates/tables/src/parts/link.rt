@@ -26,10 +26,6 @@ impl Link {
     pub(crate) fn record(self) -> Option<usize>
         ensures { LeadsTo self result }
     {
-        if self.to == 0 {
-            None
-        } else {
-            Some((self.to - 1) as usize)
-        }
+        self.to.checked_sub(1).map(usize::from)
     }
 }

@@ -4,6 +4,7 @@ ghost use Rattle.std.specs.Prelude.{◌≡◌, ◌<◌};
 ghost use Rattle.tables.specs.Edges.{goal, target_of, Numbered};
 
 /// A value, or a node.
+// An enum has no ghost field: the functions that code it say and ask that it has a number (`Numbered`).
 #[derive(Clone, Copy)]
 pub(crate) enum Target {
     Terminal(u8),
