@@ -27,13 +27,11 @@ fn joined<O: Operation>(
     first: u8,
     end: u8,
 ) -> Result<Edge, Fault> {
-    // A loop: in a fold that may fail the closure would hold the table.
-    let mut e = table.variable(first)?;
-    for x in first.wrapping_add(1)..end {
+    let e = table.variable(first)?;
+    (first.wrapping_add(1)..end).try_fold(e, |e, x| {
         let f = table.variable(x)?;
-        e = table.apply(operation, e, f)?;
-    }
-    Ok(e)
+        Ok(table.apply(operation, e, f)?)
+    })
 }
 
 /// The sum of the first `n` variables, modulo 4.

@@ -5,7 +5,7 @@ ghost use Rattle.mvl.specs.Labels.{Laws, product, inverse, home, home_label};
 ghost use Rattle.mvl.specs.Rows.{Line, Grid, rows_meaning};
 
 /// The answers of some labelling: what it makes of a and b stands at 4 * a + b. The `carries` say all: the others follow from them.
-// Arrays beside their sizes: making a chart cannot fail, as its callers know it, and a chart is copied.
+// Arrays beside their sizes: making a chart cannot fail, as its callers know it.
 #[derive(Clone, Copy)]
 pub struct Chart {
     pub radix: u8,

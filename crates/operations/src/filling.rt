@@ -5,6 +5,7 @@ ghost use Rattle.mvl.specs.Answers.{Small, MadeFor};
 ghost use Rattle.operations.specs.Filling.{table_of, Blank, Fills};
 ghost use Rattle.std.proofs.Common.{rules};
 
+use crate::operand::operand;
 use crate::operation::{Operation, Shortcut};
 use crate::table_operation::TableOperation;
 use mvl::radix::Radix;
@@ -64,19 +65,15 @@ impl Operation for TableOperation {
     }
 
     fn ask(&self, left: u8, right: u8) -> Result<u8, Refusal> {
-        let radix = self.radix.get();
-        if left >= radix || right >= radix {
-            return Err(Refusal::NoValue);
-        }
+        let left = operand(self.radix, left)?;
+        let right = operand(self.radix, right)?;
         Ok(self.row(left)[right as usize])
     }
 }
 
 impl Shortcut for TableOperation {
     fn tell(&self, left: u8) -> Result<Option<u8>, Refusal> {
-        if left >= self.radix.get() {
-            return Err(Refusal::NoValue);
-        }
+        let left = operand(self.radix, left)?;
         let row = self.row(left);
         let first = row[0];
         let same = row.iter().all(|answer| *answer == first);

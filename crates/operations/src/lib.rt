@@ -6,6 +6,7 @@ pub mod cyclic_sum;
 pub mod filling;
 pub mod maximum;
 pub mod minimum;
+mod operand;
 pub mod operation;
 pub mod ruled;
 pub mod table_operation;

@@ -4,6 +4,7 @@ ghost use Rattle.std.specs.Prelude.{◌≡◌, ℕ, ◌<◌};
 ghost use Rattle.mvl.specs.Operations.{Binary, Closed};
 ghost use Rattle.mvl.specs.Answers.{Small, MadeFor, Asks, Tells};
 
+use crate::operand::operand;
 use crate::operation::{Operation, Shortcut};
 use mvl::radix::Radix;
 use mvl::refusal::Refusal;
@@ -60,20 +61,14 @@ impl<R: Rule> Operation for Ruled<R> {
     }
 
     fn ask(&self, left: u8, right: u8) -> Result<u8, Refusal> {
-        // Tested here and in a table operation: a function for one comparison would read no plainer.
-        let radix = self.radix.get();
-        if left >= radix || right >= radix {
-            return Err(Refusal::NoValue);
-        }
+        let left = operand(self.radix, left)?;
+        let right = operand(self.radix, right)?;
         Ok(R::answer(self.radix, left, right))
     }
 }
 
 impl<R: Rule> Shortcut for Ruled<R> {
     fn tell(&self, left: u8) -> Result<Option<u8>, Refusal> {
-        if left >= self.radix.get() {
-            return Err(Refusal::NoValue);
-        }
-        Ok(R::decided(self.radix, left))
+        Ok(R::decided(self.radix, operand(self.radix, left)?))
     }
 }

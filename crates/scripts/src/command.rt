@@ -3,6 +3,7 @@
 use crate::kinds::{LabellingKind, OperationKind};
 
 /// What a line of a script asks for, in its own numbers.
+// A kind and a radix go side by side, here and in the session, as on the line: a type of the two would be taken apart at once.
 #[derive(Drop)]
 pub enum Command {
     /// Choose a labelling of a kind and a radix.

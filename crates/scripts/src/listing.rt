@@ -1,6 +1,6 @@
 //! Entries and failures in print.
 //!
-//! By hand: what most print depends on whether there is a word, a line or an answer, and the texts stand together.
+//! By hand: some texts depend on whether there is a word, a line or an answer, and a derive for the others would part what belongs together.
 
 use crate::command::Command;
 use crate::entry::{Entry, Expected, Failure, Fault, Unread};

@@ -45,7 +45,7 @@ impl Session {
         self.operation()?.table()
     }
 
-    // A function for each choice, of one statement: one for both would have to be told what to make and where to put it.
+    // A function for each choice: one for both would have to be told what to make and where to put it.
     fn choose_labelling(&mut self, kind: LabellingKind, radix: u8) -> Result<(), Refusal>
         ensures { ChoosesLabelling self.old kind radix result self.new }
     {
@@ -56,8 +56,7 @@ impl Session {
     fn choose_operation(&mut self, kind: OperationKind, radix: u8) -> Result<(), Refusal>
         ensures { ChoosesOperation self.old kind radix result self.new }
     {
-        let operation = AnyOperation::new(kind, radix)?;
-        self.operation = Some(Chosen::Alone(operation));
+        self.operation = Some(Chosen::Alone(AnyOperation::new(kind, radix)?));
         Ok(())
     }
 

@@ -44,12 +44,11 @@ impl Words<'_> {
 
     // The numbers up to the end of the line.
     fn numbers(&mut self) -> Result<Vec<u8>, Unread> {
-        let mut all = Vec::new(self.heap);
-        // A loop: each turn may fail in two ways, and `?` joins them.
-        for word in self.rest.by_ref() {
-            all.push(spelled(self.heap, Expected::Number, Some(word))?)?;
-        }
-        Ok(all)
+        let heap = self.heap;
+        self.rest
+            .by_ref()
+            .map(|word| spelled(heap, Expected::Number, Some(word)))
+            .try_collect(heap)
     }
 
     // A match: no word is the good case here.

@@ -72,7 +72,7 @@ impl<L: Labelling + Copy> Trial<'_, L> {
             .map_or(0, |kept| kept.number)
     }
 
-    // Any label, and a target below `n`, cut to the bits that a target has.
+    // Any label, and a target below `n`: a target has fourteen bits.
     fn wild(&mut self, n: usize) -> u16 {
         let target = (self.random.below(n) & 0x3fff) as u16;
         let label = self.label_or_below(4);

@@ -16,8 +16,8 @@ impl<L: Labelling + Copy> Trial<'_, L> {
         self.read_all()
     }
 
-    // By a number that is drawn: the gate refuses a list of functions that is handed out. Each call draws, judges and asks by itself, since
-    // all have other arguments; what they share is `settle`.
+    // By a number that is drawn, of which each call has a range: the ranges weigh them. Each call draws, judges and asks by itself, since all
+    // have other arguments; what they share is `settle`.
     fn play(&mut self) -> Result<(), Fault> {
         match self.random.below(32) {
             0 => self.play_constant(),

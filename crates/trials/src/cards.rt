@@ -34,9 +34,8 @@ impl Filling {
     }
 
     /// Whether a new card has this shape and capacity.
-    // Part by part, since a new card is no filling.
     pub(crate) fn is_new(&self) -> bool {
-        self.shape.n == 1 && self.shape.size(0) == 2 && self.capacity == 0
+        self.shape.sizes() == &[2] && self.capacity == 0
     }
 }
 

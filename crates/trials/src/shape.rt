@@ -19,7 +19,7 @@ impl Shape {
         &self.sizes[..self.n]
     }
 
-    /// The size of variable `x`; 1 where there is none, so that a value of it can be drawn.
+    /// The size of variable `x`; 1 where there is none, so that a width goes on.
     pub(crate) fn size(&self, x: usize) -> usize
         ensures some { 0 < result }
         ensures byte { result < 256 }

@@ -133,7 +133,7 @@ impl<L: Labelling> Trial<'_, L> {
     }
 
     fn new_node(&mut self, r: usize, missing: &[Function]) -> Result<(), Fault> {
-        // A loop, and not `Function::of`: a reading may be refused, and this is the one place where it may.
+        // A loop, and not `Function::of`: a reading may be refused, and `?` ends it.
         let mut function = Function::zero();
         for i in 0..self.model.shape.count() {
             let reading = granted("a node is read", self.read(edge_of(r), i))?;
@@ -197,7 +197,7 @@ impl<L: Labelling> Trial<'_, L> {
     }
 }
 
-// The edge with label 0 to node `r`.
+// The edge with label 0 to node `r`: a target has fourteen bits.
 fn edge_of(r: usize) -> Edge {
     Edge::new((r.wrapping_add(4) & 0x3fff) as u16)
 }

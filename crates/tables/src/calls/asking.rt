@@ -26,7 +26,6 @@ impl Diagrams {
     }
 
     /// Whether an edge is one of the table.
-    // An `if` at each call refuses it: a test that refuses would be as long.
     pub(crate) fn has(&self, e: Edge) -> bool
         ensures { result ≡ is_edge (meaning_of self.now) (nodes_of self.now) (arrow e) }
     {

@@ -20,7 +20,8 @@ pub(crate) fn alike(edges: [Edge; 4], size: u8) -> bool
     edges[..size as usize].iter().all(|e| *e == edges[0])
 }
 
-// What `edge` gives each value below a size, and the others unused. A size is a number of a card's row, so that its bound is asked for.
+// What `edge` gives each value below a size, and the others unused.
+// A size comes from a card's row as a number, and its bound from the card: a type of sizes would be made here only to be taken apart.
 fn filled<F: Fn(u8) -> Edge>(size: u8, edge: F) -> [Edge; 4]
     requires few { size ≤ 4 }
     requires known { (i : ℕ) → i < size → F.pre edge i }

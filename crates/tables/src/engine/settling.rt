@@ -11,7 +11,7 @@ pub(crate) trait Walk {
     /// The walk of the theory.
     ghost way: { Self → Way };
 
-    // What it asks is a fact of a walk, a task and a table together, which no type of one of them can hold.
+    // Each of the two is a fact of a table together with a walk or a task, so that no type of one of them can hold it.
     /// An edge that serves for the task, or the variable at which it is taken apart.
     fn settle(&self, diagrams: &Diagrams, task: Task) -> Next
         requires fair { WalkIn diagrams.now (way self.now) }

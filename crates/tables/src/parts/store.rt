@@ -9,7 +9,8 @@ use crate::parts::node::Node;
 
 /// The records of the nodes, in memory that is reserved when the table is opened, and the heads of the chains by which they are found.
 // Records named by number, and no boxes: a rule of the project wants them in a plain store, and a node's number is part of its edge's.
-// A limit beside the Vec, which may have more room than it was asked for.
+// A limit beside the Vec, which may have more room: by it the store's own invariant says how many records there may be, and each method that
+// it stays.
 #[derive(Drop)]
 pub(crate) struct Store {
     pub(crate) nodes: Vec<Node>,
