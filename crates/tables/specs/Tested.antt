@@ -1,5 +1,5 @@
 -- What the tests of a call's arguments answer, by the number with which they refuse. Assumes nothing.
-use Rattle.std.specs.Prelude.{◌≡◌, ℕ, Ok, Err, Result, ◌&&◌, ◌==◌, nat_lt, slice_index}
+use Rattle.std.specs.Prelude.{◌≡◌, ℕ, true, false, Ok, Err, Result, ◌&&◌, ◌==◌, nat_lt, slice_index}
 use Rattle.mvl.specs.declared.refusal.Refusal.{Refusal}
 use Rattle.mvl.specs.declared.refusal.Refusal.TheVariants.{NoEdge, NoVariable, NoValue, WrongRadix}
 use Rattle.mvl.specs.Numbers.{number}
@@ -14,6 +14,11 @@ use Rattle.tables.specs.Did.{meaning_of, nodes_of}
 abbrev pub Tested : {A : Type 0} → ℕ → Result A Refusal → Type 0
 Tested n (Ok done) = n ≡ 0
 Tested n (Err k) = n ≡ number k
+
+-- it is an edge of the table
+abbrev pub Known : Diagrams → Edge → Result (Unit {0}) Refusal → Type 0
+Known d e (Ok done) = true ≡ is_edge (meaning_of d) (nodes_of d) (arrow e)
+Known d e (Err k) = (false ≡ is_edge (meaning_of d) (nodes_of d) (arrow e)) × (k ≡ NoEdge)
 
 -- there is such a variable
 abbrev pub no_variable : Card → ℕ → ℕ

@@ -50,9 +50,7 @@ impl Diagrams {
     pub(crate) fn turn(&mut self, e: Edge, k: u8) -> Result<Edge, Refusal>
         ensures { Did self.old (asks (turning (arrow e) k)) (answer_of result) self.new }
     {
-        if !self.has(e) {
-            return Err(Refusal::NoEdge);
-        }
+        self.known(e)?;
         if k >= self.chart.labels {
             return Err(Refusal::NoLabel);
         }

@@ -61,9 +61,7 @@ impl Diagrams {
     pub(crate) fn evaluate(&self, e: Edge, assignment: &[u8]) -> Result<Reading, Refusal>
         ensures { Evaluates (meaning_of self.now) (table_of self.now) (arrow e) assignment.now result }
     {
-        if !self.has(e) {
-            return Err(Refusal::NoEdge);
-        }
+        self.known(e)?;
         if assignment.len() != self.card.n {
             return Err(Refusal::WrongLength);
         }

@@ -1,13 +1,23 @@
 //! What calls test of what they are handed.
 
 ghost use Rattle.std.specs.Prelude.{◌≡◌, IfOk, slice_index};
-ghost use Rattle.tables.specs.Tested.{Tested, no_variable, no_value, unfit};
+ghost use Rattle.tables.specs.Tested.{Tested, Known, no_variable, no_value, unfit};
 
 use crate::parts::edge::Edge;
 use crate::parts::holding::Diagrams;
 use mvl::refusal::Refusal;
 
 impl Diagrams {
+    /// Refuses an edge that is none of the table.
+    pub(crate) fn known(&self, e: Edge) -> Result<(), Refusal>
+        ensures { Known self.now e result }
+    {
+        if !self.has(e) {
+            return Err(Refusal::NoEdge);
+        }
+        Ok(())
+    }
+
     /// The size of variable `x`. Refused where there is no such variable.
     pub(crate) fn size(&self, x: u8) -> Result<u8, Refusal>
         ensures tested { Tested (no_variable self.now.card x) result }

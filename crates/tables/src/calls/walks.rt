@@ -46,9 +46,7 @@ impl Diagrams {
     pub(crate) fn restrict(&mut self, e: Edge, x: u8, v: u8) -> Result<Edge, Refusal>
         ensures { Did self.old (asks (restricting (arrow e) x v)) (answer_of result) self.new }
     {
-        if !self.has(e) {
-            return Err(Refusal::NoEdge);
-        }
+        self.known(e)?;
         self.size_above(x, v)?;
         let walk = Restricting {
             variable: x,
