@@ -45,9 +45,8 @@ impl Diagrams {
     pub(crate) fn fit(&self, radix: u8, e: Edge, f: Edge) -> Result<(), Refusal>
         ensures { Tested (unfit self.now radix e f) result }
     {
-        if !self.has(e) || !self.has(f) {
-            return Err(Refusal::NoEdge);
-        }
+        self.known(e)?;
+        self.known(f)?;
         if radix != self.chart.radix {
             return Err(Refusal::WrongRadix);
         }
