@@ -35,7 +35,7 @@ impl Filling {
 
     /// Whether a new card has this shape and capacity.
     pub(crate) fn is_new(&self) -> bool {
-        self.shape.sizes() == &[2] && self.capacity == 0
+        self.shape.sizes() == [2].as_slice() && self.capacity == 0
     }
 }
 
