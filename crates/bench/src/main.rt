@@ -34,60 +34,58 @@ const STEPS_OF_THRESHOLD: u64 = 6752;
 // How many random functions nearly fill a table.
 const FILL: u32 = 350;
 
-fn asked_for(rt: &HostRuntime) -> anyhow::Result<Teller> {
+fn asked_for(rt: &HostRuntime) -> anyhow::Result<Teller<'_>> {
     let mut words = env::args(rt)?;
     let timed = words.any(|word| word.as_str() == "time");
-    Ok(Teller { timed })
+    Ok(Teller { rt, timed })
 }
 
 // The sum of twelve variables is built, and read a million times.
-fn read(rt: &HostRuntime, teller: Teller) -> anyhow::Result<()> {
+fn read(teller: Teller) -> anyhow::Result<()> {
     // Timed by hand, since the table goes on to the readings.
-    let start = Instant::now(rt)?;
-    let mut table = opened(rt.alloc(), &[4; 12])?;
+    let start = Instant::now(teller.rt)?;
+    let mut table = opened(teller.rt.alloc(), &[4; 12])?;
     let e = sum(&mut table, 12)?;
-    let spent = start.elapsed(rt)?;
+    let spent = start.elapsed(teller.rt)?;
     let mut part = Part::new();
     part.add(u64::from(e.number()), STEPS_OF_SUM_12);
-    teller.tell(rt, "sum of 12", "step", part, spent)?;
-    teller.time(rt, "readings", "visit", || readings(&table, e, 1000000))
+    teller.tell("sum of 12", "step", part, spent)?;
+    teller.time("readings", "visit", || readings(&table, e, 1000000))
 }
 
-fn build(rt: &HostRuntime, teller: Teller) -> anyhow::Result<()> {
-    let heap = rt.alloc();
-    teller.time(rt, "sum of 8", "step", || {
+fn build(teller: Teller) -> anyhow::Result<()> {
+    let heap = teller.rt.alloc();
+    teller.time("sum of 8", "step", || {
         rounds(heap, |table| sum(table, 8), STEPS_OF_SUM_8)
     })?;
-    teller.time(rt, "largest of 8", "step", || {
+    teller.time("largest of 8", "step", || {
         rounds(heap, largest, STEPS_OF_LARGEST)
     })?;
-    teller.time(rt, "threshold of 8", "step", || {
+    teller.time("threshold of 8", "step", || {
         rounds(heap, threshold, STEPS_OF_THRESHOLD)
     })
 }
 
 // A table is filled by random functions, asked for the same again and for others, and for literals.
-fn fill(rt: &HostRuntime, teller: Teller) -> anyhow::Result<()> {
-    let mut table = opened(rt.alloc(), &[4; 8])?;
-    teller.time(rt, "filling", "function", || {
+fn fill(teller: Teller) -> anyhow::Result<()> {
+    let mut table = opened(teller.rt.alloc(), &[4; 8])?;
+    teller.time("filling", "function", || {
         functions(&mut table, 3, 1, FILL)
     })?;
-    teller.time(rt, "asked again", "function", || {
+    teller.time("asked again", "function", || {
         functions(&mut table, 3, 100, FILL)
     })?;
-    teller.time(rt, "others", "function", || {
+    teller.time("others", "function", || {
         functions(&mut table, 4, 1, 100000)
     })?;
-    teller.time(rt, "literals", "call", || {
-        Ok(literals(&mut table, 1000000))
-    })
+    teller.time("literals", "call", || { Ok(literals(&mut table, 1000000)) })
 }
 
 fn run(rt: &HostRuntime) -> anyhow::Result<()> {
     let teller = asked_for(rt)?;
-    read(rt, teller)?;
-    build(rt, teller)?;
-    fill(rt, teller)
+    read(teller)?;
+    build(teller)?;
+    fill(teller)
 }
 
 fn main(rt: HostRuntime) -> anyhow::Result<()> {

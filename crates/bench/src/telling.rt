@@ -6,34 +6,32 @@ use crate::fault::Fault;
 use crate::part::Part;
 use std::time::{Duration, Instant};
 
-/// Whether times are printed.
-// The runtime is handed to each function beside it, as a handle is.
+/// Where lines are printed, and whether times are.
 #[derive(Clone, Copy)]
-pub(crate) struct Teller {
+pub(crate) struct Teller<'a> {
+    pub(crate) rt: &'a HostRuntime,
     pub(crate) timed: bool,
 }
 
-impl Teller {
+impl Teller<'_> {
     /// Some work, and the line of it. The clock is read right before the work and right after it.
     pub(crate) fn time<F: FnOnce() -> Result<Part, Fault>>(
         self,
-        rt: &HostRuntime,
         name: &str,
         unit: &str,
         work: F,
     ) -> anyhow::Result<()>
         requires { F.IsAlwaysCallable work }
     {
-        let start = Instant::now(rt)?;
+        let start = Instant::now(self.rt)?;
         let part = work()?;
-        let spent = start.elapsed(rt)?;
-        self.tell(rt, name, unit, part, spent)
+        let spent = start.elapsed(self.rt)?;
+        self.tell(name, unit, part, spent)
     }
 
     /// The line of a part of the work.
     pub(crate) fn tell(
         self,
-        rt: &HostRuntime,
         name: &str,
         unit: &str,
         part: Part,
@@ -41,16 +39,17 @@ impl Teller {
     ) -> anyhow::Result<()> {
         let check = part.check;
         let count = part.count;
-        print!(rt; "{name}: check {check}, {count} {unit}s")?;
+        print!(self.rt; "{name}: check {check}, {count} {unit}s")?;
         if self.timed {
             let nanos = u64::try_from(spent.as_nanos()).unwrap_or(u64::MAX);
+            // Reckoned in whole numbers, so that no float is rounded.
             let micros = nanos / 1000;
             let tenths = nanos.wrapping_mul(10) / count.max(1);
             let whole = tenths / 10;
             let rest = tenths % 10;
-            print!(rt; ", {micros} us, {whole}.{rest} ns a {unit}")?;
+            print!(self.rt; ", {micros} us, {whole}.{rest} ns a {unit}")?;
         }
-        println!(rt; "")?;
+        println!(self.rt; "")?;
         Ok(())
     }
 }
