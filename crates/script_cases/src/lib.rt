@@ -22,7 +22,8 @@ mod tests {
         }
     }
 
-    // The first script that is not listed, or does not fail, as the text beside it says.
+    // The first script that is not listed, or does not fail, as the text beside it says. That there is none each test asserts by itself: a
+    // function that asserts would need a handle that may end the process.
     fn first_wrong<'a>(
         heap: Global,
         cases: &'a [(&'a str, &'a str)],
