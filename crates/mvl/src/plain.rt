@@ -55,7 +55,6 @@ impl Labelling for Plain {
     }
 
     fn home_label(&self, value: u8) -> Result<u8, Refusal> {
-        value_below(value, self.radix())?;
-        Ok(0)
+        value_below(value, self.radix()).map(|_| 0)
     }
 }

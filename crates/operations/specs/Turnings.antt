@@ -30,6 +30,14 @@ module _ (o : Binary) (m : Meaning) (i j k : ℕ) (closed : Closed o) (laws : La
     within = λ a b ha hb. grind (arith, nat_tests, closed.within, laws.within);
   }
 
+  -- label 0 leaves a value as it is
+  pub still : (n v : ℕ) → T (n == 0) → v < m.radix → m.carry n v ≡ v
+  still n v t h = grind (arith, nat_tests, laws.still)
+
+  -- where all are 0, to carry changes nothing
+  pub all_still : T (i == 0 && (j == 0 && k == 0)) → o.radix ≡ m.radix → (a b : ℕ) → a < o.radix → b < o.radix → m.carry k (o.answer (m.carry i a) (m.carry j b)) ≡ o.answer a b
+  all_still t same a b ha hb = grind (arith, nat_tests, closed.within, laws.still)
+
   -- where the labels fit, the answer is carried
   pub turned_carried : Labelled m i j k → o.radix ≡ m.radix → Carried o m i j k (turned o m i j k)
   turned_carried fit same = (refl, λ a b ha hb. grind (arith, nat_tests, closed.within, laws.still))

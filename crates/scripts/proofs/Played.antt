@@ -2,7 +2,7 @@
 use Rattle.std.proofs.Common.{◌≡◌, ℕ, ◌<◌, ◌≤◌, List, [], ◌∷◌, ◌++◌, Some, None, Ok, Option, Result, sym, refl, subst, arith}
 use Rattle.scripts.specs.declared.session.Session.{Session}
 use Rattle.scripts.specs.declared.entry.Entry.{Entry}
-use Rattle.scripts.specs.declared.entry.Fault.{Fault}
+use Rattle.scripts.specs.declared.entry.Failure.{Failure}
 use Rattle.scripts.specs.Obeys.{Obeys, nothing_chosen}
 use Rattle.scripts.specs.Plays.{Played, Steps, Advances}
 
@@ -31,7 +31,7 @@ advance_none n t t' es o s q =
     λ m h p. subst (λ (x : Session). Played nothing_chosen 0 es x n) (sym step) (played_on nothing_chosen 0 es t m n (omega arith) p)
 
 -- the next line is done
-pub advanced : (line n k : ℕ) (t t' : Session) (es es' : List Entry) (r : Result (Unit {0}) Fault) → Advances line t es r t' es' → r ≡ Ok tt → n < line → line ≡ k → Played nothing_chosen 0 es t n → Played nothing_chosen 0 es' t' k
+pub advanced : (line n k : ℕ) (t t' : Session) (es es' : List Entry) (r : Result (Unit {0}) Failure) → Advances line t es r t' es' → r ≡ Ok tt → n < line → line ≡ k → Played nothing_chosen 0 es t n → Played nothing_chosen 0 es' t' k
 advanced line n k t t' es es' r a q h e p =
     subst (λ (x : ℕ). Played nothing_chosen 0 es' t' x) e
-    (subst (λ (x : Result (Unit {0}) Fault). Advances line t es x t' es') q a n h p)
+    (subst (λ (x : Result (Unit {0}) Failure). Advances line t es x t' es') q a n h p)

@@ -27,10 +27,15 @@ Played s m [] t n = (t ≡ s) × (m ≤ n)
 Played s m (e ∷ es) t n =
     (m < e.line) × ((s' : Session) × Obeys s e.command (Ok e.reply) s' × Played s' e.line es t n)
 
--- line n is done in session t, after the entries of the lines before; where it fails, they do not matter any more
-abbrev pub Advances : ℕ → Session → List Entry → Result (Unit {0}) Fault → Session → List Entry → Type 0
-Advances n t es (Ok done) t' es' = (m : ℕ) → m < n → Played nothing_chosen 0 es t m → Played nothing_chosen 0 es' t' n
-Advances n t es (Err f) t' es' = Faulty t f
+-- line n is done in session t, after the entries of the lines before; where it has a fault, they do not matter any more
+abbrev pub Adds : ℕ → Session → List Entry → Result (Unit {0}) Fault → Session → List Entry → Type 0
+Adds n t es (Ok done) t' es' = (m : ℕ) → m < n → Played nothing_chosen 0 es t m → Played nothing_chosen 0 es' t' n
+Adds n t es (Err f) t' es' = Faulty t f
+
+-- the same, and the failure is that of line n
+abbrev pub Advances : ℕ → Session → List Entry → Result (Unit {0}) Failure → Session → List Entry → Type 0
+Advances n t es (Ok done) t' es' = Adds n t es (Ok done) t' es'
+Advances n t es (Err f) t' es' = (f.line ≡ n) × Adds n t es (Err f.fault) t' es'
 
 -- lines up to the last are played, and a line after them fails
 pub record Stopped (f : Failure) : Type 0 where

@@ -1,6 +1,6 @@
 //! A script is played line by line.
 
-ghost use Rattle.scripts.specs.Plays.{Steps, Advances, Runs};
+ghost use Rattle.scripts.specs.Plays.{Steps, Adds, Advances, Runs};
 
 use crate::entry::{Entry, Failure, Fault};
 use crate::reading::read;
@@ -29,20 +29,33 @@ fn step(
 }
 
 // Does what a line says, and adds its entry, if it has one, to those of the lines before.
-fn advance(
+fn add(
     heap: Global,
     session: &mut Session,
     entries: &mut Vec<Entry>,
     line: usize,
     text: &str,
 ) -> Result<(), Fault>
-    ensures { Advances line session.old entries.old.items result session.new entries.new.items }
+    ensures { Adds line session.old entries.old.items result session.new entries.new.items }
 {
     let Some(entry) = step(heap, session, line, text)? else {
         return Ok(());
     };
     entries.push(entry)?;
     Ok(())
+}
+
+// The same; a fault becomes the failure of this line.
+fn advance(
+    heap: Global,
+    session: &mut Session,
+    entries: &mut Vec<Entry>,
+    line: usize,
+    text: &str,
+) -> Result<(), Failure>
+    ensures { Advances line session.old entries.old.items result session.new entries.new.items }
+{
+    add(heap, session, entries, line, text).map_err(|fault| Failure { line, fault })
 }
 
 /// Plays a script from its first line on, with nothing chosen: an entry for each line that is done. A line that makes no sense, or lacks
@@ -54,10 +67,7 @@ pub fn run(heap: Global, text: &str) -> Result<Vec<Entry>, Failure>
     let mut entries = Vec::new(heap);
     for (i, text) in text.lines().enumerate() {
         let line = i + 1;
-        advance(heap, &mut session, &mut entries, line, text).map_err(|fault| Failure {
-            line,
-            fault,
-        })?;
+        advance(heap, &mut session, &mut entries, line, text)?;
     }
     Ok(entries)
 }

@@ -1,5 +1,6 @@
 //! What ends a trial.
 
+use crate::numbers::expected_number;
 use mvl::refusal::Refusal;
 use std::alloc::AllocError;
 use thiserror::Error;
@@ -34,13 +35,14 @@ pub(crate) fn agree(what: &'static str, expected: usize, found: usize) -> Result
     }))
 }
 
-/// The same of two refusals, or none.
+/// The same of two refusals, or none: the number that is expected by the rules, the other as the library has it.
 pub(crate) fn agree_refused(
     what: &'static str,
     expected: Option<Refusal>,
     found: Option<Refusal>,
 ) -> Result<(), Fault> {
-    agree(what, number(expected), number(found))
+    let expected = expected.map_or(0, expected_number);
+    agree(what, usize::from(expected), number(found))
 }
 
 /// What was answered; a difference where it was refused.

@@ -4,7 +4,6 @@ ghost use Rattle.std.specs.Prelude.{◌≡◌};
 
 use crate::labels::Labels;
 use crate::shape::Shape;
-use std::array;
 
 /// The value at each assignment, and 0 behind them.
 // An array that reads 0 beyond its end: a Vec would make each of the many copies a call that can fail, and an index would have to be shown to fit.
@@ -23,10 +22,12 @@ impl Function {
     pub(crate) fn of<F: Fn(usize) -> u8>(shape: &Shape, value: F) -> Function
         requires { F.IsAlwaysCallable value }
     {
-        let count = shape.count();
-        Function {
-            values: array::from_fn(|i| if i < count { value(i) } else { 0 }),
+        let mut function = Function::zero();
+        // A loop: `array::from_fn` would ask at all 256 places, and most shapes have far fewer assignments.
+        for (place, i) in function.values.iter_mut().zip(0..shape.count()) {
+            *place = value(i);
         }
+        function
     }
 
     pub(crate) fn constant(shape: &Shape, v: u8) -> Function {

@@ -12,6 +12,7 @@ mod function;
 mod labels;
 mod meaning;
 mod model;
+mod numbers;
 mod random;
 mod readings;
 mod rounds;
@@ -41,13 +42,19 @@ struct Plan {
 
 impl Plan {
     fn read(rt: &HostRuntime) -> anyhow::Result<Plan> {
-        let mut words = env::args(rt)?.skip(1);
-        let seed = words.next().map(|word| word.as_str().parse::<u64>());
-        let calls = words.next().map(|word| word.as_str().parse::<usize>());
-        Ok(Plan {
-            seed: seed.transpose()?.unwrap_or(1),
-            calls: calls.transpose()?.unwrap_or(25_000),
-        })
+        let mut plan = Plan {
+            seed: 1,
+            calls: 25_000,
+        };
+        // Words are counted in a byte, the program's name first: of more than 256 the next two are a seed and a number of calls again.
+        for (i, word) in env::args(rt)?.enumerate() {
+            match i % 256 {
+                1 => plan.seed = word.as_str().parse::<u64>()?,
+                2 => plan.calls = word.as_str().parse::<usize>()?,
+                _ => {}
+            }
+        }
+        Ok(plan)
     }
 
     // An arm for each kind, since a kind names a type.

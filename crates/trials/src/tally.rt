@@ -1,5 +1,6 @@
 //! How many calls were granted, and refused with which number.
 
+use crate::numbers::expected_number;
 use mvl::refusal::Refusal;
 use std::fmt;
 
@@ -28,7 +29,7 @@ impl Tally {
 
     pub(crate) fn refuse(&mut self, refusal: Refusal) {
         self.calls = self.calls.wrapping_add(1);
-        let number = usize::from(refusal.number());
+        let number = usize::from(expected_number(refusal));
         if let Some(times) = self.refused.get_mut(number) {
             *times = times.wrapping_add(1);
         }

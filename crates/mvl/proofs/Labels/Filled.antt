@@ -58,11 +58,14 @@ module _ {m : Meaning} (l : Laws m) where
   multiplied a b (Ok k) ha hb t = t.2
   multiplied a b (Err e) ha hb t = absurd (omega (arith, t.0 ha))
 
-  -- a row that was filled with the carries means the clipped meaning
+  -- a row that has the carries means the clipped meaning, whatever else stands in it
+  pub carries_clipped : {p g : ℕ} (row : List ℕ) → p ≡ m.radix → g ≡ m.labels → Grid m.labels m.radix m.carry row → rows_meaning p g row ≡ clipped m
+  carries_clipped {p} {g} row is-p is-g = clip_same (record { radix = p; labels = g; carry = λ k v. slice_index_or row (4 * k + v) 0 }) m is-p is-g
+
+  -- so does a row that was filled with them
   pub carries_told : {p g : ℕ} (row : List ℕ) → p ≡ m.radix → g ≡ m.labels → Answered 16 (λ x r. Carries m (x / 4) (x % 4) r) row → rows_meaning p g row ≡ clipped m
-  carries_told {p} {g} row is-p is-g answered =
-      clip_same (record { radix = p; labels = g; carry = λ k v. slice_index_or row (4 * k + v) 0 }) m is-p is-g
-      (grid_told m.labels m.radix m.carry (Carries m) row l.labels_high l.radix_high carried answered)
+  carries_told row is-p is-g answered =
+      carries_clipped row is-p is-g (grid_told m.labels m.radix m.carry (Carries m) row l.labels_high l.radix_high carried answered)
 
   -- and the other rows have its answers
   pub products_told : (row : List ℕ) → Answered 16 (λ x r. Multiplies m (x / 4) (x % 4) r) row → Grid m.labels m.labels (product (clipped m)) row

@@ -1,6 +1,6 @@
 use Rattle.std.proofs.Common.{◌≡◌, None, vec_items, arith}
 use Rattle.scripts.proofs.Played.{advance_some, advance_none}
-use Rattle.scripts.proofs.playing.advance.Goals as goal
+use Rattle.scripts.proofs.playing.add.Goals as goal
 
 pub returns : goal.returns
 returns c =
