@@ -5,4 +5,5 @@ pub mod Needed
 pub mod Shown
 pub mod Obeys
 pub mod Plays
+pub mod Texts
 pub mod Lawful

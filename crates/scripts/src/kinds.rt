@@ -1,6 +1,6 @@
 //! The kinds of labellings and operations that a script may choose, with their words.
 
-ghost use Rattle.std.specs.Prelude.{◌≡◌, Some};
+ghost use Rattle.std.specs.Prelude.{◌≡◌, Some, codes};
 ghost use Rattle.scripts.specs.Words.{labelling_word, operation_word, Names};
 
 use std::error::Error;
@@ -107,6 +107,8 @@ impl fmt::Display for OperationKind {
 }
 
 impl fmt::Display for UnknownKind {
+    ghost output = { λ _. Some (codes "no kind has this word") };
+
     fn fmt<W: fmt::Write>(&self, f: &mut fmt::Formatter<W>) -> fmt::Result {
         f.write_str("no kind has this word")
     }

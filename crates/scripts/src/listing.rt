@@ -2,6 +2,9 @@
 //!
 //! By hand: some texts depend on whether there is a word, a line or an answer, and a derive for the others would part what belongs together.
 
+ghost use Rattle.std.specs.Prelude.{Some};
+ghost use Rattle.scripts.specs.Texts.{expected_text, missing_text, unread_text, fault_text, failure_text};
+
 use crate::command::Command;
 use crate::entry::{Entry, Expected, Failure, Fault, Unread};
 use crate::grid::Grid;
@@ -93,6 +96,8 @@ impl fmt::Display for Entry {
 }
 
 impl fmt::Display for Expected {
+    ghost output = { λ expected. Some (expected_text expected) };
+
     fn fmt<W: fmt::Write>(&self, f: &mut fmt::Formatter<W>) -> fmt::Result {
         f.write_str(match self {
             Expected::Command => "a command (--help lists them)",
@@ -105,6 +110,8 @@ impl fmt::Display for Expected {
 }
 
 impl fmt::Display for Missing {
+    ghost output = { λ missing. Some (missing_text missing) };
+
     fn fmt<W: fmt::Write>(&self, f: &mut fmt::Formatter<W>) -> fmt::Result {
         f.write_str(match self {
             Missing::Labelling => "a labelling to be chosen on a line before",
@@ -117,6 +124,8 @@ impl fmt::Display for Missing {
 
 /// `expected a number from 0 to 255, found 'x'`.
 impl fmt::Display for Unread {
+    ghost output = { λ unread. Some (unread_text unread) };
+
     fn fmt<W: fmt::Write>(&self, f: &mut fmt::Formatter<W>) -> fmt::Result {
         match self {
             Unread::Senseless {
@@ -133,6 +142,8 @@ impl fmt::Display for Unread {
 }
 
 impl fmt::Display for Fault {
+    ghost output = { λ fault. Some (fault_text fault) };
+
     fn fmt<W: fmt::Write>(&self, f: &mut fmt::Formatter<W>) -> fmt::Result {
         match self {
             Fault::Unread(unread) => write!(f, "{unread}"),
@@ -144,6 +155,8 @@ impl fmt::Display for Fault {
 
 /// `line 7: expected a number from 0 to 255, found 'x'`; no line is at fault where memory is short.
 impl fmt::Display for Failure {
+    ghost output = { λ failure. Some (failure_text failure) };
+
     fn fmt<W: fmt::Write>(&self, f: &mut fmt::Formatter<W>) -> fmt::Result {
         let Failure { line, fault } = self;
         match fault {
