@@ -46,7 +46,7 @@ impl Plan {
             seed: 1,
             calls: 25_000,
         };
-        // Words are counted in a byte, the program's name first: of more than 256 the next two are a seed and a number of calls again.
+        // As if counted in a byte, with the program's name as 0: the 257th and the 258th argument are a seed and a number of calls again.
         for (i, word) in env::args(rt)?.enumerate() {
             match i % 256 {
                 1 => plan.seed = word.as_str().parse::<u64>()?,
