@@ -8,7 +8,7 @@ use crate::session::Session;
 use std::alloc::Global;
 
 // Does what a line says; there is no entry for a blank line or a comment.
-// Parameters, and no struct of them: they go together through two functions only.
+// Parameters, and no struct of them: they go together through three functions only.
 fn step(
     heap: Global,
     session: &mut Session,
